@@ -1,0 +1,5 @@
+pub mod Back
+pub mod Entering
+pub mod Leads
+pub mod Pieces
+pub mod Rules

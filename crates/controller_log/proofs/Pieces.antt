@@ -1,0 +1,45 @@
+-- A file cut into its pieces, one piece on.
+use mathlib.Core.Path.{_≡_, refl, sym, ap, _∙_}
+use mathlib.Core.List.{List, [], _∷_, _++_}
+use mathlib.Core.Logic.{⊎-elim}
+use Prim.Native.Nat.{ℕ, suc, min, _+_, _-_, _/_, _<_, _≤_}
+use native.Mathlib.Omega.{arith}
+use lib.ListN.{length, take, drop, length-append, length-drop}
+use Rattle.std.proofs.shelf.Lists.{take-all, take-at, drop-all, drop-at, drop-drop}
+use Rattle.std.proofs.shelf.Tests.{cases-lt}
+use Rattle.controller_log.specs.Bytes.{cut, pieces}
+use Rattle.controller_log.specs.Limits.{record-size}
+
+pub pieces-more : (bs : List ℕ) → 0 < length bs → pieces bs ≡ take record-size bs ∷ pieces (drop record-size bs)
+pieces-more bs some =
+    let left = length-drop record-size bs in
+    let n : (length bs + 7) / 8 ≡ suc ((length (drop record-size bs) + 7) / 8) = omega arith in
+    ap (λ k. cut k bs) n
+
+pub pieces-none : (bs : List ℕ) → length bs ≡ 0 → pieces bs ≡ []
+pieces-none bs none = let n : (length bs + 7) / 8 ≡ 0 = omega arith in ap (λ k. cut k bs) n
+
+pub pieces-whole : (bs x rest : List ℕ) → bs ≡ x ++ rest → length x ≡ record-size → pieces bs ≡ x ∷ pieces rest
+pieces-whole bs x rest e size =
+    let long = ap length e ∙ length-append x rest in
+    pieces-more bs (omega arith) ∙ ap (λ y. take record-size y ∷ pieces (drop record-size y)) e
+    ∙ ap (λ y. y ∷ pieces (drop record-size (x ++ rest))) (take-at x rest record-size size) ∙ ap (λ y. x ∷ pieces y) (drop-at x rest record-size size)
+
+-- a reader at a place of a log that is cut there: the next piece, and what is left behind it
+module _ (log : List ℕ) (at : ℕ) where
+  pub pieces-past : length log ≤ at → pieces (drop at log) ≡ []
+  pieces-past past = pieces-none (drop at log) (let left = length-drop at log in omega arith)
+
+  pub pieces-from : (size : ℕ) → at < length log → size ≡ min (length log - at) record-size → pieces (drop at log) ≡ take (at + size - at) (drop at log) ∷ pieces (drop (at + size) log)
+  pieces-from size within e =
+      let left = length-drop at log in
+      pieces-more (drop at log) (omega arith)
+      ∙ ⊎-elim
+        (λ (short : length log - at < record-size).
+            (λ i. sym (take-all (at + size - at) (drop at log) (omega arith) ∙ sym (take-all record-size (drop at log) (omega arith))) i
+                ∷ pieces (sym (drop-all (at + size) log (omega arith) ∙ sym (drop-all record-size (drop at log) (omega arith))) i)))
+        (λ (whole : record-size ≤ length log - at).
+            let full : size ≡ record-size = omega arith in
+            let part : record-size ≡ at + size - at = omega arith in
+            (λ i. take (part i) (drop at log) ∷ pieces ((drop-drop record-size at log ∙ ap (λ n. drop (at + n) log) (sym full)) i)))
+        (cases-lt (length log - at) record-size)

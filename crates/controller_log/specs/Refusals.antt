@@ -1,0 +1,53 @@
+-- What a refusal tells: its number, the values beside it, and its words.
+use mathlib.Core.List.{List, [], _∷_, _++_}
+use Prim.Native.Nat.{ℕ}
+use lib.Chars.{codes}
+use Rattle.std.specs.Written.{decimal}
+use Rattle.std.specs.declared.option.Option.{Option}
+use Rattle.std.specs.declared.option.Option.the-variants.{Some, None}
+use Rattle.std.specs.declared.result.Result.{Result}
+use Rattle.std.specs.declared.result.Result.the-variants.{Ok, Err}
+use Rattle.controller_log.specs.declared.refusal.Refusal.{Refusal}
+use Rattle.controller_log.specs.declared.refusal.Refusal.the-variants.{RecordLength, RecordPadding, MomentTooLate, TableLength, RowOutOfRange, ChannelRepeated, NoSuchWatch, SeverityTooLong, OutOfOrder, HoldFull, RowListTooShort}
+
+-- a refusal's number, and the values beside it
+pub record Told : Type 0 where
+  pub number : ℕ
+  pub values : List ℕ
+
+abbrev pub told : Refusal → Told
+told RecordLength = record { number = 1; values = [] }
+told RecordPadding = record { number = 2; values = [] }
+told MomentTooLate = record { number = 3; values = [] }
+told TableLength = record { number = 4; values = [] }
+told (RowOutOfRange row) = record { number = 5; values = row ∷ [] }
+told (ChannelRepeated row) = record { number = 6; values = row ∷ [] }
+told NoSuchWatch = record { number = 7; values = [] }
+told SeverityTooLong = record { number = 8; values = [] }
+told OutOfOrder = record { number = 9; values = [] }
+told HoldFull = record { number = 10; values = [] }
+told RowListTooShort = record { number = 11; values = [] }
+
+-- what a call answers: its value, or the number and values of its refusal
+abbrev pub answer : {X : Type 0} → Result X Refusal → Result X Told
+answer (Ok x) = Ok x
+answer (Err e) = Err (told e)
+
+-- a row's place as the values of a refusal
+abbrev pub row-told : Option ℕ → List ℕ
+row-told None = []
+row-told (Some row) = row ∷ []
+
+-- a refusal in words
+abbrev pub wording : Refusal → List ℕ
+wording RecordLength = codes "the record is not 8 bytes long"
+wording RecordPadding = codes "the last two bytes of the record are not zero"
+wording MomentTooLate = codes "the moment is later than 4000000000"
+wording TableLength = codes "the detector table is longer than 512 bytes or not a whole number of 8-byte rows"
+wording (RowOutOfRange row) = codes "row " ++ (decimal row ++ codes " of the detector table has a value outside its range")
+wording (ChannelRepeated row) = codes "row " ++ (decimal row ++ codes " of the detector table repeats the channel of an earlier row")
+wording NoSuchWatch = codes "the phase is not 1 to 16, the measure not 1 to 3 or the steady mark not 0 or 1"
+wording SeverityTooLong = codes "the severity setting is over 200"
+wording OutOfOrder = codes "the moment is before the last accepted moment"
+wording HoldFull = codes "256 records are held and none of them is due"
+wording RowListTooShort = codes "more cycles may close than the row list has places"
