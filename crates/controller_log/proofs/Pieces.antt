@@ -2,12 +2,13 @@
 use mathlib.Core.Path.{_≡_, refl, sym, ap, _∙_}
 use mathlib.Core.List.{List, [], _∷_, _++_}
 use mathlib.Core.Logic.{⊎-elim}
-use Prim.Native.Nat.{ℕ, suc, min, _+_, _-_, _/_, _<_, _≤_}
+use Prim.Native.Nat.{ℕ, zero, suc, min, _+_, _-_, _/_, _<_, _≤_}
 use native.Mathlib.Omega.{arith}
-use lib.ListN.{length, take, drop, length-append, length-drop}
-use Rattle.std.proofs.shelf.Lists.{take-all, take-at, drop-all, drop-at, drop-drop}
+use lib.ListN.{length, take, drop, length-append, length-drop, length-take, take-append-drop}
+use Rattle.std.proofs.shelf.Lists.{take-all, take-at, drop-all, drop-at, drop-drop, nil-from-length}
 use Rattle.std.proofs.shelf.Tests.{cases-lt}
-use Rattle.controller_log.specs.Bytes.{cut, pieces}
+use Rattle.std.specs.Joined.{joined}
+use Rattle.controller_log.specs.Bytes.{cut, pieces, Sizes, Cuts}
 use Rattle.controller_log.specs.Limits.{record-size}
 
 pub pieces-more : (bs : List ℕ) → 0 < length bs → pieces bs ≡ take record-size bs ∷ pieces (drop record-size bs)
@@ -43,3 +44,20 @@ module _ (log : List ℕ) (at : ℕ) where
             let part : record-size ≡ at + size - at = omega arith in
             (λ i. take (part i) (drop at log) ∷ pieces ((drop-drop record-size at log ∙ ap (λ n. drop (at + n) log) (sym full)) i)))
         (cases-lt (length log - at) record-size)
+
+cut-sizes : (n : ℕ) (bs : List ℕ) → (length bs + 7) / record-size ≡ n → Sizes (cut n bs)
+cut-sizes zero bs e = tt
+cut-sizes (suc zero) bs e = let t = length-take record-size bs in (omega arith, omega arith)
+cut-sizes (suc (suc n)) bs e =
+    let t = length-take record-size bs in
+    let d = length-drop record-size bs in
+    (omega arith, cut-sizes (suc n) (drop record-size bs) (omega arith))
+
+cut-joined : (n : ℕ) (bs : List ℕ) → (length bs + 7) / record-size ≡ n → joined (λ p. p) (cut n bs) ≡ bs
+cut-joined zero bs e = sym (nil-from-length bs (omega arith))
+cut-joined (suc n) bs e =
+    let d = length-drop record-size bs in
+    ap (λ rest. take record-size bs ++ rest) (cut-joined n (drop record-size bs) (omega arith)) ∙ take-append-drop record-size bs
+
+pub pieces-cut : (bs : List ℕ) → Cuts bs (pieces bs)
+pieces-cut bs = (cut-joined ((length bs + 7) / record-size) bs refl, cut-sizes ((length bs + 7) / record-size) bs refl)

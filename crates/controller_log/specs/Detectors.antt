@@ -1,7 +1,8 @@
 -- A row of a detector table: what one detector channel is for, and its 8 bytes.
-use mathlib.Core.Bool.{Bool, cond, _&&_, _||_}
+use mathlib.Core.Bool.{Bool, true, false, cond, _&&_, _||_}
 use mathlib.Core.List.{List, [], _∷_}
 use Prim.Native.Nat.{ℕ, _+_, _/_, _%_}
+use lib.Chars.{codes}
 use lib.Dec.{eqb, leb}
 use lib.ListN.{length, getD}
 use Rattle.std.specs.declared.option.Option.{Option}
@@ -21,6 +22,20 @@ uses-byte u = cond (u .arrivals) 1 0 + cond (u .presence) 2 0 + cond (u .«red_l
 -- some use is in both
 abbrev pub share : Uses → Uses → Bool
 share u v = (u .arrivals && v .arrivals) || ((u .presence && v .presence) || (u .«red_light» && v .«red_light»))
+
+-- the uses by name: arrivals, presence, red-light
+abbrev pub named : Bool → Bool → Bool → List ℕ
+named false false false = codes "no use"
+named true false false = codes "arrivals"
+named false true false = codes "presence"
+named true true false = codes "arrivals and presence"
+named false false true = codes "red-light"
+named true false true = codes "arrivals and red-light"
+named false true true = codes "presence and red-light"
+named true true true = codes "arrivals, presence and red-light"
+
+abbrev pub uses-named : Uses → List ℕ
+uses-named u = named (u .arrivals) (u .presence) (u .«red_light»)
 
 abbrev pub within : ℕ → ℕ → ℕ → Bool
 within low high n = leb low n && leb n high

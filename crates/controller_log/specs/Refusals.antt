@@ -2,6 +2,7 @@
 use mathlib.Core.List.{List, [], _∷_, _++_}
 use Prim.Native.Nat.{ℕ}
 use lib.Chars.{codes}
+use lib.ListN.{getD}
 use Rattle.std.specs.Written.{decimal}
 use Rattle.std.specs.declared.option.Option.{Option}
 use Rattle.std.specs.declared.option.Option.the-variants.{Some, None}
@@ -38,16 +39,27 @@ abbrev pub row-told : Option ℕ → List ℕ
 row-told None = []
 row-told (Some row) = row ∷ []
 
+-- each refusal in words, by its number from 1 on
+abbrev pub words : List (List ℕ)
+words =
+    [] ∷ codes "the record is not 8 bytes long"
+    ∷ codes "the last two bytes of the record are not zero"
+    ∷ codes "the moment is later than 4000000000"
+    ∷ codes "the detector table is not a number of 8-byte rows, or has more than 64"
+    ∷ codes "the detector table has a value out of range"
+    ∷ codes "the detector table has a channel twice"
+    ∷ codes "the phase is not 1 to 16, the measure not 1 to 3 or the steady mark not 0 or 1"
+    ∷ codes "the severity setting is over 200"
+    ∷ codes "the moment is before the last accepted one"
+    ∷ codes "256 records are held and none of them is due"
+    ∷ codes "more cycles may close than the row list has places"
+    ∷ []
+
+-- words, and the table's row where one is told
+abbrev pub at-row : List ℕ → List ℕ → List ℕ
+at-row text [] = text
+at-row text (row ∷ more) = text ++ (codes ", row " ++ decimal row)
+
 -- a refusal in words
-abbrev pub wording : Refusal → List ℕ
-wording RecordLength = codes "the record is not 8 bytes long"
-wording RecordPadding = codes "the last two bytes of the record are not zero"
-wording MomentTooLate = codes "the moment is later than 4000000000"
-wording TableLength = codes "the detector table is longer than 512 bytes or not a whole number of 8-byte rows"
-wording (RowOutOfRange row) = codes "row " ++ (decimal row ++ codes " of the detector table has a value outside its range")
-wording (ChannelRepeated row) = codes "row " ++ (decimal row ++ codes " of the detector table repeats the channel of an earlier row")
-wording NoSuchWatch = codes "the phase is not 1 to 16, the measure not 1 to 3 or the steady mark not 0 or 1"
-wording SeverityTooLong = codes "the severity setting is over 200"
-wording OutOfOrder = codes "the moment is before the last accepted moment"
-wording HoldFull = codes "256 records are held and none of them is due"
-wording RowListTooShort = codes "more cycles may close than the row list has places"
+abbrev pub wording : Told → List ℕ
+wording e = at-row (getD words (e .number) []) (e .values)

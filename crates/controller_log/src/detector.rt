@@ -3,12 +3,13 @@ ghost use mathlib.Core.Path.{_≡_};
 ghost use mathlib.Core.Bool.{true};
 ghost use Rattle.std.specs.declared.option.Option.the-variants.{Some};
 ghost use Rattle.std.specs.Options.{Cases};
-ghost use Rattle.controller_log.specs.Detectors.{uses-of, uses-byte, share, in-range, read-row, row-bytes, names};
+ghost use Rattle.controller_log.specs.Detectors.{uses-of, uses-byte, share, uses-named, in-range, read-row, row-bytes, names};
 use crate::limits::ALL_USES;
 use crate::limits::CHANNELS;
 use crate::limits::MAX_LATENCY;
 use crate::limits::MAX_TRAVEL;
 use crate::limits::PHASES;
+use std::fmt;
 
 // The uses that a detector serves, or that a measure takes.
 #[derive(Clone, Copy, PartialEq, Eq, Debug)]
@@ -43,6 +44,29 @@ impl Uses {
         self.arrivals && other.arrivals
             || self.presence && other.presence
             || self.red_light && other.red_light
+    }
+
+    fn by_name(&self) -> &'static str
+        ensures { λ r. ⌜ now r ≡ uses-named (now (self .entry)) ⌝ }
+    {
+        match (self.arrivals, self.presence, self.red_light) {
+            (false, false, false) => "no use",
+            (true, false, false) => "arrivals",
+            (false, true, false) => "presence",
+            (true, true, false) => "arrivals and presence",
+            (false, false, true) => "red-light",
+            (true, false, true) => "arrivals and red-light",
+            (false, true, true) => "presence and red-light",
+            (true, true, true) => "arrivals, presence and red-light",
+        }
+    }
+}
+
+pub impl fmt::Display for Uses as UsesDisplay {
+    ghost shown = { λ u. Some (uses-named u) };
+
+    fn fmt<W: fmt::Write>(&self, f: &mut fmt::Formatter<W>) -> fmt::Result {
+        f.write_str(self.by_name())
     }
 }
 

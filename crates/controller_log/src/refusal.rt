@@ -1,7 +1,9 @@
 // Why a call was refused: a case for each reason, with its number, its values and its words.
 ghost use mathlib.Core.Path.{_≡_};
+ghost use mathlib.Core.List.{[]};
+ghost use lib.ListN.{getD};
 ghost use Rattle.std.specs.declared.option.Option.the-variants.{Some};
-ghost use Rattle.controller_log.specs.Refusals.{told, row-told, wording};
+ghost use Rattle.controller_log.specs.Refusals.{told, row-told, words, wording};
 use std::fmt;
 
 #[derive(Clone, Copy, PartialEq, Eq, Debug)]
@@ -48,34 +50,38 @@ impl Refusal {
             _ => None,
         }
     }
+
+    fn words(&self) -> &'static str
+        ensures { λ r. ⌜ now r ≡ getD words (told (now (self .entry)) .number) [] ⌝ }
+    {
+        match self {
+            Refusal::RecordLength => "the record is not 8 bytes long",
+            Refusal::RecordPadding => "the last two bytes of the record are not zero",
+            Refusal::MomentTooLate => "the moment is later than 4000000000",
+            Refusal::TableLength => {
+                "the detector table is not a number of 8-byte rows, or has more than 64"
+            }
+            Refusal::RowOutOfRange(_) => "the detector table has a value out of range",
+            Refusal::ChannelRepeated(_) => "the detector table has a channel twice",
+            Refusal::NoSuchWatch => {
+                "the phase is not 1 to 16, the measure not 1 to 3 or the steady mark not 0 or 1"
+            }
+            Refusal::SeverityTooLong => "the severity setting is over 200",
+            Refusal::OutOfOrder => "the moment is before the last accepted one",
+            Refusal::HoldFull => "256 records are held and none of them is due",
+            Refusal::RowListTooShort => "more cycles may close than the row list has places",
+        }
+    }
 }
 
 pub impl fmt::Display for Refusal as RefusalDisplay {
-    ghost shown = { λ e. Some (wording e) };
+    ghost shown = { λ e. Some (wording (told e)) };
 
     fn fmt<W: fmt::Write>(&self, f: &mut fmt::Formatter<W>) -> fmt::Result {
-        match self {
-            Refusal::RecordLength => f.write_str("the record is not 8 bytes long"),
-            Refusal::RecordPadding => f.write_str("the last two bytes of the record are not zero"),
-            Refusal::MomentTooLate => f.write_str("the moment is later than 4000000000"),
-            Refusal::TableLength => f.write_str(
-                "the detector table is longer than 512 bytes or not a whole number of 8-byte rows",
-            ),
-            Refusal::RowOutOfRange(row) => {
-                write!(f, "row {row} of the detector table has a value outside its range")
-            }
-            Refusal::ChannelRepeated(row) => {
-                write!(f, "row {row} of the detector table repeats the channel of an earlier row")
-            }
-            Refusal::NoSuchWatch => f.write_str(
-                "the phase is not 1 to 16, the measure not 1 to 3 or the steady mark not 0 or 1",
-            ),
-            Refusal::SeverityTooLong => f.write_str("the severity setting is over 200"),
-            Refusal::OutOfOrder => f.write_str("the moment is before the last accepted moment"),
-            Refusal::HoldFull => f.write_str("256 records are held and none of them is due"),
-            Refusal::RowListTooShort => {
-                f.write_str("more cycles may close than the row list has places")
-            }
+        let words = self.words();
+        match self.row() {
+            Some(row) => write!(f, "{words}, row {row}"),
+            None => f.write_str(words),
         }
     }
 }

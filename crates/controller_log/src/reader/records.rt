@@ -2,7 +2,7 @@
 ghost use mathlib.Core.Path.{_≡_};
 ghost use Prim.Native.Nat.{_-_};
 ghost use lib.ListN.{length};
-ghost use Rattle.controller_log.specs.Bytes.{pieces};
+ghost use Rattle.controller_log.specs.Bytes.{pieces, Cuts};
 ghost use Rattle.controller_log.specs.Readers.{to-come, Yields};
 use crate::limits::RECORD_SIZE;
 use crate::reader::LogReader;
@@ -11,6 +11,7 @@ impl<'a> LogReader<'a> {
     // A reader at the start of a log.
     pub fn new(log: &'a [u8]) -> LogReader<'a>
         ensures to_come { λ r. ⌜ to-come r ≡ pieces (now (log .entry)) ⌝ }
+        ensures whole { λ r. ⌜ Cuts (now (log .entry)) (to-come r) ⌝ }
         ensures number { λ r. ⌜ r .number ≡ 0 ⌝ }
     {
         LogReader {

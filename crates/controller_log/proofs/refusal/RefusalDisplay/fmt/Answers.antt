@@ -1,19 +1,15 @@
+use mathlib.Core.Path.{_≡_, sym, subst, ap, _∙_}
+use mathlib.Core.List.{List, [], _∷_, _++_}
+use Prim.Native.Nat.{ℕ}
+use lib.Chars.{codes}
+use lib.ListN.{getD}
+use Rattle.std.specs.Written.{decimal, Prints}
+use Rattle.controller_log.specs.Refusals.{told, words, wording, at-row}
 use Rattle.controller_log.proofs.refusal.RefusalDisplay.fmt.Needs as need
 
-pub returns-in-RecordLength : need.returns-in-RecordLength
-returns-in-RecordLength g c = rw (c .in-RecordLength .is) (c .write-str .ensures .prints)
-
-pub returns-in-RecordPadding : need.returns-in-RecordPadding
-returns-in-RecordPadding g c = rw (c .in-RecordPadding .is) (c .write-str-in-RecordPadding .ensures .prints)
-
-pub returns-in-RowOutOfRange : need.returns-in-RowOutOfRange
-returns-in-RowOutOfRange g c = rw (c .in-RowOutOfRange .is) (c .write .ensures .shows)
-
-pub returns-in-NoSuchWatch : need.returns-in-NoSuchWatch
-returns-in-NoSuchWatch g c = rw (c .in-NoSuchWatch .is) (c .write-str-in-NoSuchWatch .ensures .prints)
-
-pub returns-in-HoldFull : need.returns-in-HoldFull
-returns-in-HoldFull g c = rw (c .in-HoldFull .is) (c .write-str-in-HoldFull .ensures .prints)
-
-pub returns-in-RowListTooShort : need.returns-in-RowListTooShort
-returns-in-RowListTooShort g c = rw (c .in-RowListTooShort .is) (c .write-str-in-RowListTooShort .ensures .prints)
+pub returns-in-Some : need.returns-in-Some
+returns-in-Some g c =
+    let e = told (c .args .self .now) in
+    let text : c .words-words .result .now ++ (codes ", row " ++ decimal (c .in-Some .row)) ≡ wording e =
+        ap (λ t. t ++ (codes ", row " ++ decimal (c .in-Some .row))) (c .words-words .ensures) ∙ ap (at-row (getD words (e .number) [])) (c .in-Some .ensures tt) in
+    subst (λ bs. Prints (g .W·Write .took) (c .args .f .now) (c .write .result) bs (c .write .last .self)) text (c .write .ensures .shows)
