@@ -40,7 +40,7 @@ row-told None = []
 row-told (Some row) = row ∷ []
 
 -- each refusal in words, by its number from 1 on
-abbrev pub words : List (List ℕ)
+unfoldable pub words : List (List ℕ)
 words =
     [] ∷ codes "the record is not 8 bytes long"
     ∷ codes "the last two bytes of the record are not zero"
@@ -61,5 +61,5 @@ at-row text [] = text
 at-row text (row ∷ more) = text ++ (codes ", row " ++ decimal row)
 
 -- a refusal in words
-abbrev pub wording : Told → List ℕ
+unfoldable pub wording : Told → List ℕ
 wording e = at-row (getD words (e .number) []) (e .values)

@@ -3,6 +3,8 @@ ghost use Prim.Native.Nat.{_≤_};
 
 mod records;
 
+pub use records::LogReaderIterator;
+
 // A cursor over a log: what stands before `at` was yielded, as `number` records.
 #[derive(Drop)]
 pub struct LogReader<'a> {
