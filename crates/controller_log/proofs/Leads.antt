@@ -11,7 +11,7 @@ use Rattle.std.specs.Options.{isSome}
 use Rattle.std.specs.declared.option.Option.{Option}
 use Rattle.std.specs.declared.option.Option.the-variants.{Some, None}
 use Rattle.controller_log.specs.Detectors.{names}
-use Rattle.controller_log.specs.Tables.{if-named, first-row, None-below, Lowest}
+use Rattle.controller_log.specs.LeadRows.{if-named, first-row, None-below, Lowest}
 use Rattle.controller_log.specs.declared.detector.DetectorRow.{DetectorRow}
 use Rattle.controller_log.specs.declared.detector.Uses.{Uses}
 

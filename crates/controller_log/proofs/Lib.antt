@@ -1,5 +1,5 @@
-pub mod Back
 pub mod Entering
 pub mod Leads
 pub mod Pieces
 pub mod Rules
+pub mod WrittenBack

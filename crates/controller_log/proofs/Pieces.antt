@@ -8,7 +8,7 @@ use lib.ListN.{length, take, drop, length-append, length-drop, length-take, take
 use Rattle.std.proofs.shelf.Lists.{take-all, take-at, drop-all, drop-at, drop-drop, nil-from-length}
 use Rattle.std.proofs.shelf.Tests.{cases-lt}
 use Rattle.std.specs.Joined.{joined}
-use Rattle.controller_log.specs.Bytes.{cut, pieces, Sizes, Cuts}
+use Rattle.controller_log.specs.Pieces.{cut, pieces, Sizes, Cuts}
 use Rattle.controller_log.specs.Limits.{record-size}
 
 pub pieces-more : (bs : List ℕ) → 0 < length bs → pieces bs ≡ take record-size bs ∷ pieces (drop record-size bs)
@@ -31,19 +31,23 @@ module _ (log : List ℕ) (at : ℕ) where
   pub pieces-past : length log ≤ at → pieces (drop at log) ≡ []
   pieces-past past = pieces-none (drop at log) (let left = length-drop at log in omega arith)
 
-  pub pieces-from : (size : ℕ) → at < length log → size ≡ min (length log - at) record-size → pieces (drop at log) ≡ take (at + size - at) (drop at log) ∷ pieces (drop (at + size) log)
-  pieces-from size within e =
+  pub pieces-from : (p : List ℕ) → at < length log → p ≡ take (min (length log - at) record-size) (drop at log) → (0 < length p) × (at + length p ≤ length log) × (pieces (drop at log) ≡ p ∷ pieces (drop (at + length p) log))
+  pieces-from p within e =
       let left = length-drop at log in
-      pieces-more (drop at log) (omega arith)
-      ∙ ⊎-elim
-        (λ (short : length log - at < record-size).
-            (λ i. sym (take-all (at + size - at) (drop at log) (omega arith) ∙ sym (take-all record-size (drop at log) (omega arith))) i
-                ∷ pieces (sym (drop-all (at + size) log (omega arith) ∙ sym (drop-all record-size (drop at log) (omega arith))) i)))
-        (λ (whole : record-size ≤ length log - at).
-            let full : size ≡ record-size = omega arith in
-            let part : record-size ≡ at + size - at = omega arith in
-            (λ i. take (part i) (drop at log) ∷ pieces ((drop-drop record-size at log ∙ ap (λ n. drop (at + n) log) (sym full)) i)))
-        (cases-lt (length log - at) record-size)
+      let size = ap length e ∙ length-take (min (length log - at) record-size) (drop at log) in (
+        omega arith,
+        omega arith,
+        pieces-more (drop at log) (omega arith)
+            ∙ ⊎-elim
+            (λ (short : length log - at < record-size).
+            (λ i. sym (e ∙ take-all (min (length log - at) record-size) (drop at log) (omega arith) ∙ sym (take-all record-size (drop at log) (omega arith))) i
+            ∷ pieces (sym (drop-all (at + length p) log (omega arith) ∙ sym (drop-all record-size (drop at log) (omega arith))) i)))
+            (λ (whole : record-size ≤ length log - at).
+            let full : length p ≡ record-size = omega arith in
+            let part : record-size ≡ min (length log - at) record-size = omega arith in
+            (λ i. (ap (λ n. take n (drop at log)) part ∙ sym e) i ∷ pieces ((drop-drop record-size at log ∙ ap (λ n. drop (at + n) log) (sym full)) i)))
+            (cases-lt (length log - at) record-size),
+      )
 
 cut-sizes : (n : ℕ) (bs : List ℕ) → (length bs + 7) / record-size ≡ n → Sizes (cut n bs)
 cut-sizes zero bs e = tt

@@ -15,11 +15,12 @@ use Rattle.std.specs.declared.option.Option.{Option}
 use Rattle.std.specs.declared.option.Option.the-variants.{Some, None}
 use Rattle.std.specs.declared.result.Result.{Result}
 use Rattle.std.specs.declared.result.Result.the-variants.{Ok, Err}
-use Rattle.controller_log.specs.Bytes.{pieces}
+use Rattle.controller_log.specs.Pieces.{pieces}
 use Rattle.controller_log.specs.Detectors.{within, read-row, row-fields}
 use Rattle.controller_log.specs.Limits.{record-size, channels, all-uses, max-table-size}
-use Rattle.controller_log.specs.Refusals.{Told, told}
-use Rattle.controller_log.specs.Tables.{lookup, no-rows, with-row, enter, then, entered, table-length, read-table, Lists, Sound, Holds, First-fault, Table-rules}
+use Rattle.controller_log.specs.Refusals.{Told, told, then}
+use Rattle.controller_log.specs.TableRules.{Lists, Sound, Holds, First-fault, Table-rules}
+use Rattle.controller_log.specs.Tables.{lookup, no-rows, with-row, enter, entered, table-length, read-table}
 use Rattle.controller_log.specs.declared.detector.DetectorRow.{DetectorRow}
 use Rattle.controller_log.specs.declared.refusal.Refusal.the-variants.{TableLength, RowOutOfRange, ChannelRepeated}
 use Rattle.controller_log.specs.declared.table.DetectorTable.{DetectorTable}
@@ -62,10 +63,13 @@ push-last (r ∷ rows) row channel d e = inr (push-last rows row channel d e)
 
 sound-push : (rows : List (List ℕ)) (row : List ℕ) (c : ℕ) (d : DetectorRow) → read-row row ≡ Some (c, d) → ((e : DetectorRow) → Lists rows c e → ⊥) → Sound rows → Sound (rows ++ row ∷ [])
 sound-push [] row c d e new s = (c, d, e, λ _ n. n, tt)
-sound-push (r ∷ rows) row c d e new s =
-    (s .0, s .1, s .2,
-     λ f l. ⊎-elim (s .3 f) (λ h. new (s .1) (inl (s .2 ∙ ap (λ x. Some (x, s .1)) (sym (same-row row c d (s .0) f e h .0))))) (listed-push rows row (s .0) f l),
-     sound-push rows row c d e (λ f l. new f (inr l)) (s .4))
+sound-push (r ∷ rows) row c d e new s = (
+  s .0,
+  s .1,
+  s .2,
+  λ f l. ⊎-elim (s .3 f) (λ h. new (s .1) (inl (s .2 ∙ ap (λ x. Some (x, s .1)) (sym (same-row row c d (s .0) f e h .0))))) (listed-push rows row (s .0) f l),
+  sound-push rows row c d e (λ f l. new f (inr l)) (s .4),
+)
 
 -- a look-up after a row was put
 module _ (t : DetectorTable) (size : length (t .places) ≡ channels) (c : ℕ) (d : DetectorRow) (in-range : within 1 channels c ≡ true) where
@@ -143,7 +147,7 @@ kept-from before t (row ∷ rows) s = at (λ u. kept-from (before ++ row ∷ [])
     put next c d false e free =
         subst (λ r. Kept r (entered (length before + 1) t (row ∷ rows))) (append-assoc before (row ∷ []) rows)
         (subst (Kept ((before ++ row ∷ []) ++ rows)) (ap (λ n. entered (n + 1) (with-row t c d) rows) (length-push before row) ∙ sym (entered-more (length before + 1) t row rows c d e free))
-         (next (with-row t c d) (sofar-more before t row c d s e free)))
+        (next (with-row t c d) (sofar-more before t row c d s e free)))
 
     at : Goes-on → (o : Option (ℕ × DetectorRow)) → read-row row ≡ o → Kept (before ++ row ∷ rows) (entered (length before + 1) t (row ∷ rows))
     at next None e =

@@ -16,6 +16,7 @@ use Rattle.controller_log.specs.declared.detector.Uses.{Uses}
 abbrev pub uses-of : ℕ → Uses
 uses-of b = record { arrivals = eqb (b % 2) 1; presence = eqb (b / 2 % 2) 1; «red_light» = eqb (b / 4 % 2) 1 }
 
+-- the byte that adds them up
 abbrev pub uses-byte : Uses → ℕ
 uses-byte u = cond (u .arrivals) 1 0 + cond (u .presence) 2 0 + cond (u .«red_light») 4 0
 
@@ -23,7 +24,7 @@ uses-byte u = cond (u .arrivals) 1 0 + cond (u .presence) 2 0 + cond (u .«red_l
 abbrev pub share : Uses → Uses → Bool
 share u v = (u .arrivals && v .arrivals) || ((u .presence && v .presence) || (u .«red_light» && v .«red_light»))
 
--- the uses by name: arrivals, presence, red-light
+-- arrivals, presence and red-light by name
 abbrev pub named : Bool → Bool → Bool → List ℕ
 named false false false = codes "no use"
 named true false false = codes "arrivals"
@@ -34,9 +35,11 @@ named true false true = codes "arrivals and red-light"
 named false true true = codes "presence and red-light"
 named true true true = codes "arrivals, presence and red-light"
 
+-- the uses by name
 abbrev pub uses-named : Uses → List ℕ
 uses-named u = named (u .arrivals) (u .presence) (u .«red_light»)
 
+-- a number from low to high
 abbrev pub within : ℕ → ℕ → ℕ → Bool
 within low high n = leb low n && leb n high
 

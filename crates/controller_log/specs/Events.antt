@@ -21,9 +21,11 @@ code-of RedClearanceEnds = 11
 code-of DetectorOff = 81
 code-of DetectorOn = 82
 
+-- all of them
 abbrev pub events : List Event
 events = GreenBegins ∷ GapOut ∷ MaxOut ∷ ForceOff ∷ YellowBegins ∷ YellowEnds ∷ RedClearanceEnds ∷ DetectorOff ∷ DetectorOn ∷ []
 
+-- the first of some events that has a code
 abbrev pub with-code : ℕ → List Event → Option Event
 with-code c [] = None
 with-code c (e ∷ es) = cond (eqb c (code-of e)) (Some e) (with-code c es)

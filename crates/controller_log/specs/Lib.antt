@@ -1,8 +1,11 @@
 pub mod Limits
 pub mod Refusals
 pub mod Bytes
+pub mod Pieces
 pub mod Events
 pub mod Records
 pub mod Detectors
 pub mod Tables
+pub mod TableRules
+pub mod LeadRows
 pub mod Readers

@@ -16,6 +16,7 @@ pub record Told : Type 0 where
   pub number : ℕ
   pub values : List ℕ
 
+-- the number and the values of each case
 abbrev pub told : Refusal → Told
 told RecordLength = record { number = 1; values = [] }
 told RecordPadding = record { number = 2; values = [] }
@@ -34,18 +35,28 @@ abbrev pub answer : {X : Type 0} → Result X Refusal → Result X Told
 answer (Ok x) = Ok x
 answer (Err e) = Err (told e)
 
+-- the same of a call that changes what it is made on, and answers that
+abbrev pub answer-with : {X : Type 0} → Result (Unit {0}) Refusal → X → Result X Told
+answer-with (Ok done) x = Ok x
+answer-with (Err e) x = Err (told e)
+
+-- f goes on from what a call answered, unless it was refused
+abbrev pub then : {X Y E : Type 0} → Result X E → (X → Result Y E) → Result Y E
+then (Ok x) f = f x
+then (Err e) f = Err e
+
 -- a row's place as the values of a refusal
 abbrev pub row-told : Option ℕ → List ℕ
 row-told None = []
 row-told (Some row) = row ∷ []
 
--- each refusal in words, by its number from 1 on
+-- each refusal in words, by its number, which counts from 1
 unfoldable pub words : List (List ℕ)
 words =
     [] ∷ codes "the record is not 8 bytes long"
     ∷ codes "the last two bytes of the record are not zero"
     ∷ codes "the moment is later than 4000000000"
-    ∷ codes "the detector table is not a number of 8-byte rows, or has more than 64"
+    ∷ codes "the detector table's length is no multiple of 8 bytes, or over 512"
     ∷ codes "the detector table has a value out of range"
     ∷ codes "the detector table has a channel twice"
     ∷ codes "the phase is not 1 to 16, the measure not 1 to 3 or the steady mark not 0 or 1"

@@ -9,6 +9,7 @@ use crate::limits::CHANNELS;
 use crate::limits::MAX_LATENCY;
 use crate::limits::MAX_TRAVEL;
 use crate::limits::PHASES;
+use crate::limits::RECORD_SIZE;
 use std::fmt;
 
 // The uses that a detector serves, or that a measure takes.
@@ -21,7 +22,7 @@ pub struct Uses {
 
 impl Uses {
     // The uses that a byte adds up: 1 arrivals, 2 presence, 4 red-light.
-    pub fn from_byte(byte: u8) -> Uses
+    fn from_byte(byte: u8) -> Uses
         ensures { λ r. ⌜ r ≡ uses-of byte ⌝ }
     {
         Uses {
@@ -31,14 +32,14 @@ impl Uses {
         }
     }
 
-    pub fn to_byte(&self) -> u8
+    fn to_byte(&self) -> u8
         ensures { λ r. ⌜ r ≡ uses-byte (now (self .entry)) ⌝ }
     {
         u8::from(self.arrivals) + 2 * u8::from(self.presence) + 4 * u8::from(self.red_light)
     }
 
     // Whether some use is in both.
-    pub fn share(&self, other: Uses) -> bool
+    fn share(&self, other: Uses) -> bool
         ensures { λ r. ⌜ r ≡ share (now (self .entry)) other ⌝ }
     {
         self.arrivals && other.arrivals
@@ -85,6 +86,12 @@ impl DetectorRow {
         ensures value { λ r. ⌜ r ≡ read-row (now (bytes .entry)) ⌝ }
         ensures written_back { λ r. ⌜ Cases r (Unit {0}) (λ w. row-bytes (w .0) (w .1) ≡ now (bytes .entry)) ⌝ }
     {
+        DetectorRow::decode(bytes)
+    }
+
+    fn decode(bytes: &[u8]) -> Option<(u8, DetectorRow)>
+        ensures { λ r. ⌜ r ≡ read-row (now (bytes .entry)) ⌝ }
+    {
         let [channel, phase, uses, zero, t0, t1, l0, l1] = bytes else {
             return None;
         };
@@ -114,7 +121,7 @@ impl DetectorRow {
     }
 
     // The 8 bytes of this row at a channel; they read back as both, unless a value is out of range.
-    pub fn to_bytes(&self, channel: u8) -> [u8; 8]
+    pub fn to_bytes(&self, channel: u8) -> [u8; RECORD_SIZE]
         ensures value { λ r. ⌜ r ≡ row-bytes channel (now (self .entry)) ⌝ }
         ensures read_back { λ r. ⌜ (in-range channel (now (self .entry)) ≡ true → read-row r ≡ Some (channel, now (self .entry))) ⌝ }
     {

@@ -41,16 +41,18 @@ pub impl fmt::Display for Event as EventDisplay {
     ghost shown = { λ e. Some (event-name e) };
 
     fn fmt<W: fmt::Write>(&self, f: &mut fmt::Formatter<W>) -> fmt::Result {
-        f.write_str(match self {
-            Event::GreenBegins => "green begins",
-            Event::GapOut => "gap-out",
-            Event::MaxOut => "max-out",
-            Event::ForceOff => "force-off",
-            Event::YellowBegins => "yellow begins",
-            Event::YellowEnds => "yellow ends",
-            Event::RedClearanceEnds => "red clearance ends",
-            Event::DetectorOff => "detector off",
-            Event::DetectorOn => "detector on",
-        })
+        f.write_str(
+            match self {
+                Event::GreenBegins => "green begins",
+                Event::GapOut => "gap-out",
+                Event::MaxOut => "max-out",
+                Event::ForceOff => "force-off",
+                Event::YellowBegins => "yellow begins",
+                Event::YellowEnds => "yellow ends",
+                Event::RedClearanceEnds => "red clearance ends",
+                Event::DetectorOff => "detector off",
+                Event::DetectorOn => "detector on",
+            },
+        )
     }
 }

@@ -9,6 +9,7 @@ pub const RECORD_SIZE: usize = 8;
 
 // Detector channels and signal phases count from 1 up to these.
 pub const CHANNELS: u8 = 64;
+
 pub const PHASES: u8 = 16;
 
 // All uses of a detector added: arrivals 1, presence 2, red-light 4.
@@ -16,8 +17,10 @@ pub const ALL_USES: u8 = 7;
 
 // The longest travel from a loop to the stop line, and the longest detector latency.
 pub const MAX_TRAVEL: u16 = 200;
+
 pub const MAX_LATENCY: u16 = 50;
 
 // A detector table has one place a channel, so its file is at most this long.
 pub const TABLE_PLACES: usize = 64;
+
 pub const MAX_TABLE_SIZE: usize = 512;

@@ -7,6 +7,7 @@ ghost use Rattle.controller_log.specs.Limits.{max-moment};
 ghost use Rattle.controller_log.specs.Refusals.{answer};
 ghost use Rattle.controller_log.specs.Records.{read-record, record-bytes};
 use crate::limits::MAX_MOMENT;
+use crate::limits::RECORD_SIZE;
 use crate::refusal::Refusal;
 
 #[derive(Clone, Copy, PartialEq, Eq, Debug)]
@@ -22,6 +23,12 @@ impl Record {
         ensures value { λ r. ⌜ answer r ≡ read-record (now (bytes .entry)) ⌝ }
         ensures moment { λ r. ⌜ made r (λ d. d .moment ≤ max-moment) ⌝ }
         ensures written_back { λ r. ⌜ made r (λ d. record-bytes d ≡ now (bytes .entry)) ⌝ }
+    {
+        Record::decode(bytes)
+    }
+
+    fn decode(bytes: &[u8]) -> Result<Record, Refusal>
+        ensures { λ r. ⌜ answer r ≡ read-record (now (bytes .entry)) ⌝ }
     {
         let [m0, m1, m2, m3, code, parameter, z0, z1, rest @ ..] = bytes else {
             return Err(Refusal::RecordLength);
@@ -44,7 +51,7 @@ impl Record {
     }
 
     // The 8 bytes of a record; they read back as the record, unless its moment is over the limit.
-    pub fn to_bytes(&self) -> [u8; 8]
+    pub fn to_bytes(&self) -> [u8; RECORD_SIZE]
         ensures value { λ r. ⌜ r ≡ record-bytes (now (self .entry)) ⌝ }
         ensures read_back { λ r. ⌜ (now (self .entry) .moment ≤ max-moment → read-record r ≡ Ok (now (self .entry))) ⌝ }
     {

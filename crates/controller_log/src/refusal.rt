@@ -8,16 +8,27 @@ use std::fmt;
 
 #[derive(Clone, Copy, PartialEq, Eq, Debug)]
 pub enum Refusal {
+    // A log record is not 8 bytes long.
     RecordLength,
+    // The last two bytes of a record are not zero.
     RecordPadding,
+    // A moment is over the limit.
     MomentTooLate,
+    // A detector table is no whole number of rows, or has too many.
     TableLength,
+    // A row, by its place from 1, breaks a range or its zero byte.
     RowOutOfRange(usize),
+    // A row, by its place from 1, has the channel of an earlier one.
     ChannelRepeated(usize),
+    // No such phase, measure or steady mark.
     NoSuchWatch,
+    // The severity setting is over its limit.
     SeverityTooLong,
+    // A moment is before the last accepted one.
     OutOfOrder,
+    // As many records are held as can be, and none of them is due.
     HoldFull,
+    // More cycles may close than the row list has places.
     RowListTooShort,
 }
 
@@ -59,7 +70,7 @@ impl Refusal {
             Refusal::RecordPadding => "the last two bytes of the record are not zero",
             Refusal::MomentTooLate => "the moment is later than 4000000000",
             Refusal::TableLength => {
-                "the detector table is not a number of 8-byte rows, or has more than 64"
+                "the detector table's length is no multiple of 8 bytes, or over 512"
             }
             Refusal::RowOutOfRange(_) => "the detector table has a value out of range",
             Refusal::ChannelRepeated(_) => "the detector table has a channel twice",

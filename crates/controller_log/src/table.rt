@@ -2,31 +2,36 @@
 ghost use mathlib.Core.Path.{_≡_};
 ghost use mathlib.Core.Bool.{true};
 ghost use mathlib.Core.List.{map};
-ghost use Prim.Native.Nat.{_%_};
+ghost use Prim.Native.Nat.{_+_, _%_, _^_, _<_};
 ghost use lib.ListN.{length};
-ghost use Rattle.controller_log.specs.Bytes.{pieces};
-ghost use Rattle.controller_log.specs.Detectors.{within};
+ghost use Rattle.controller_log.specs.Detectors.{within, read-row};
 ghost use Rattle.controller_log.specs.Limits.{channels, record-size};
-ghost use Rattle.controller_log.specs.Refusals.{answer};
-ghost use Rattle.controller_log.specs.Tables.{lookup, no-rows, with-row, entered, read-table, Table-rules, if-named, rows-naming, first-row, lead-row, Lowest};
+ghost use Rattle.controller_log.specs.LeadRows.{if-named, rows-naming, first-row, lead-row, Lowest};
+ghost use Rattle.controller_log.specs.Pieces.{pieces};
+ghost use Rattle.controller_log.specs.Refusals.{answer, answer-with};
+ghost use Rattle.controller_log.specs.TableRules.{Table-rules};
+ghost use Rattle.controller_log.specs.Tables.{lookup, no-rows, with-row, enter, entered, read-table};
 use crate::detector::DetectorRow;
 use crate::detector::Uses;
 use crate::limits::CHANNELS;
 use crate::limits::MAX_TABLE_SIZE;
 use crate::limits::RECORD_SIZE;
+use crate::limits::TABLE_PLACES;
 use crate::refusal::Refusal;
 
 #[derive(Clone, Copy)]
 pub struct DetectorTable {
-    places: [Option<DetectorRow>; 64],
+    places: [Option<DetectorRow>; TABLE_PLACES],
 }
 
 impl DetectorTable {
     // The table without rows.
-    pub fn empty() -> DetectorTable
+    fn empty() -> DetectorTable
         ensures { λ r. ⌜ r ≡ no-rows ⌝ }
     {
-        DetectorTable { places: [None; 64] }
+        DetectorTable {
+            places: [None; TABLE_PLACES],
+        }
     }
 
     // The row of a channel, if it has one.
@@ -81,15 +86,24 @@ impl DetectorTable {
     {
         let mut table = DetectorTable::empty();
         for (i, row) in bytes.chunks_exact(RECORD_SIZE).enumerate() {
-            let Some((channel, row)) = DetectorRow::read(row) else {
-                return Err(Refusal::RowOutOfRange(i + 1));
-            };
-            if table.lookup(channel).is_some() {
-                return Err(Refusal::ChannelRepeated(i + 1));
-            }
-            table.put(channel, row);
+            table.enter(i, row)?;
         }
         Ok(table)
+    }
+
+    // The row that i rows stand before is put at its channel.
+    fn enter(&mut self, i: usize, row: &[u8]) -> Result<(), Refusal>
+        requires { ⌜ i + 1 < 2 ^ 64 ⌝ }
+        ensures { λ r. ⌜ answer-with r (now (self .exit)) ≡ enter (i + 1) (now (self .entry)) (read-row (now (row .entry))) ⌝ }
+    {
+        let Some((channel, row)) = DetectorRow::read(row) else {
+            return Err(Refusal::RowOutOfRange(i + 1));
+        };
+        if self.lookup(channel).is_some() {
+            return Err(Refusal::ChannelRepeated(i + 1));
+        }
+        self.put(channel, row);
+        Ok(())
     }
 }
 

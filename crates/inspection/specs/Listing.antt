@@ -9,7 +9,7 @@ use Rattle.std.specs.declared.option.Option.{Option}
 use Rattle.std.specs.declared.option.Option.the-variants.{Some, None}
 use Rattle.std.specs.declared.result.Result.{Result}
 use Rattle.std.specs.declared.result.Result.the-variants.{Ok, Err}
-use Rattle.controller_log.specs.Bytes.{pieces}
+use Rattle.controller_log.specs.Pieces.{pieces}
 use Rattle.controller_log.specs.Detectors.{uses-named}
 use Rattle.controller_log.specs.Events.{event, event-name}
 use Rattle.controller_log.specs.Limits.{channels}
@@ -34,14 +34,14 @@ abbrev pub row-line : ℕ → DetectorRow → List ℕ
 row-line channel d =
     text
     (codes "detector " ∷ decimal channel ∷ codes ": phase " ∷ decimal (d .phase) ∷ codes ", " ∷ uses-named (d .uses) ∷ codes ", travel " ∷ decimal (d .travel)
-     ∷ codes ", latency " ∷ decimal (d .latency) ∷ line-feed ∷ [])
+    ∷ codes ", latency " ∷ decimal (d .latency) ∷ line-feed ∷ [])
 
 -- a record's number and fields, and then more
 abbrev pub record-start : ℕ → Record → List ℕ → List ℕ
 record-start number r more =
     text
     (codes "record " ∷ decimal number ∷ codes ": moment " ∷ decimal (r .moment) ∷ codes ", code " ∷ decimal (r .code) ∷ codes ", parameter " ∷ decimal (r .parameter)
-     ∷ more ∷ [])
+    ∷ more ∷ [])
 
 -- the end of a record's line: the event's name, where it has one
 abbrev pub event-end : Option Event → List ℕ

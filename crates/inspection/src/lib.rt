@@ -5,7 +5,7 @@ ghost use mathlib.Core.List.{_++_};
 ghost use Rattle.std.specs.Of.String.{string-bytes};
 ghost use Rattle.std.specs.Options.{isSome, Cases};
 ghost use Rattle.std.specs.Vec.{made};
-ghost use Rattle.controller_log.specs.Bytes.{pieces};
+ghost use Rattle.controller_log.specs.Pieces.{pieces};
 ghost use Rattle.controller_log.specs.Limits.{channels};
 ghost use Rattle.controller_log.specs.Refusals.{told};
 ghost use Rattle.inspection.specs.Listing.{row-lines, record-line, refused-lines, rows-text, rows-count, log-text, listing};
@@ -53,7 +53,11 @@ fn write_table(text: &mut String, table: &DetectorTable) -> Result<usize, AllocE
 }
 
 // The line of a channel's row, if it has one; answers how many lines that is.
-fn write_place(text: &mut String, channel: u8, place: Option<DetectorRow>) -> Result<usize, AllocError>
+fn write_place(
+    text: &mut String,
+    channel: u8,
+    place: Option<DetectorRow>,
+) -> Result<usize, AllocError>
     ensures line { λ r. ⌜ made r (λ _. string-bytes (now (text .exit)) ≡ string-bytes (now (text .entry)) ++ row-lines channel place) ⌝ }
     ensures count { λ r. ⌜ made r (λ n. n ≡ cond (isSome place) 1 0) ⌝ }
 {
@@ -85,7 +89,10 @@ fn write_log(text: &mut String, rows: usize, log: &[u8]) -> Result<(), AllocErro
         }
         records = number;
     }
-    add(text, format_args!("detector rows: {rows}, records: {records}\n"))
+    add(
+        text,
+        format_args!("detector rows: {rows}, records: {records}\n"),
+    )
 }
 
 fn write_record(text: &mut String, number: usize, entry: Record) -> Result<(), AllocError>
@@ -112,7 +119,10 @@ fn write_refusal(text: &mut String, number: usize, refusal: Refusal) -> Result<(
     ensures { λ r. ⌜ made r (λ _. string-bytes (now (text .exit)) ≡ string-bytes (now (text .entry)) ++ refused-lines number (told refusal)) ⌝ }
 {
     let refused = refusal.number();
-    add(text, format_args!("refused {refused} at record {number}\n{refusal}\n"))
+    add(
+        text,
+        format_args!("refused {refused} at record {number}\n{refusal}\n"),
+    )
 }
 
 // Text that goes to a string can only fail for want of memory.

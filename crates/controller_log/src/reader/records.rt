@@ -2,8 +2,8 @@
 ghost use mathlib.Core.Path.{_≡_};
 ghost use Prim.Native.Nat.{_-_};
 ghost use lib.ListN.{length};
-ghost use Rattle.controller_log.specs.Bytes.{pieces, Cuts};
-ghost use Rattle.controller_log.specs.Readers.{to-come, Yields};
+ghost use Rattle.controller_log.specs.Pieces.{pieces, Cuts};
+ghost use Rattle.controller_log.specs.Readers.{to-come, Piece-at, Yields};
 use crate::limits::RECORD_SIZE;
 use crate::reader::LogReader;
 
@@ -32,15 +32,22 @@ pub impl<'a> Iterator for LogReader<'a> as LogReaderIterator {
     ghost left = { λ s. length (s .log .now) - s .at };
 
     fn next(&mut self) -> Option<(usize, &'a [u8])> {
-        let log = self.log;
-        let at = self.at;
-        if at >= log.len() {
+        let Some(piece) = piece_at(self.log, self.at) else {
             return None;
-        }
-        let size = (log.len() - at).min(RECORD_SIZE);
-        let piece = &log[at..at + size];
-        self.at = at + size;
+        };
+        self.at += piece.len();
         self.number += 1;
         Some((self.number, piece))
     }
+}
+
+// At most 8 bytes of a log from a place on, or none where it has no more.
+fn piece_at(log: &[u8], at: usize) -> Option<&[u8]>
+    ensures { λ r. ⌜ Piece-at (now (log .entry)) at r ⌝ }
+{
+    if at >= log.len() {
+        return None;
+    }
+    let size = (log.len() - at).min(RECORD_SIZE);
+    Some(&log[at..at + size])
 }

@@ -17,8 +17,8 @@ returns-in-Err c =
     let counts : c .in-Some .number ≡ c .loop-number .records + 1 = omega (arith, next .1, c .loop-number .inv .2) in
     made-weaker (c .write-refusal .result) _ _
     (λ _ h. h
-        ∙ ap (λ l. string-bytes (c .loop-number .text) ++ l) (sym (log-stops (c .args .rows) (c .loop-number .records) (c .in-Some .number) (c .in-Some .bytes .now) (to-come reader) (to-come (c .next .last .self)) (next .0) counts (told (c .in-Err .refusal)) (c .in-Err .ensures tt .value)))
-        ∙ c .loop-number .inv .3)
+    ∙ ap (λ l. string-bytes (c .loop-number .text) ++ l) (sym (log-stops (c .args .rows) (c .loop-number .records) (c .in-Some .number) (c .in-Some .bytes .now) (to-come reader) (to-come (c .next .last .self)) (next .0) counts (told (c .in-Err .refusal)) (c .in-Err .ensures tt .value)))
+    ∙ c .loop-number .inv .3)
     (c .write-refusal .ensures)
 
 pub loop-number-again : need.loop-number-again
@@ -26,11 +26,14 @@ loop-number-again c =
     let reader = c .loop-number .number-iterator in
     let next = c .in-Some .ensures tt .steps in
     let counts : c .in-Some .number ≡ c .loop-number .records + 1 = omega (arith, next .1, c .loop-number .inv .2) in
-    let more = log-text (c .args .rows) (c .in-Some .number) (to-come (c .next .last .self)) in
-    (tt, tt, next .1 ∙ sym (next .2),
-     ap (λ l. l ++ more) (c .in-Continue-write-record .ensures tt) ∙ append-assoc (string-bytes (c .loop-number .text)) (record-line (c .in-Some .number) (c .in-Ok .record)) more
-     ∙ ap (λ l. string-bytes (c .loop-number .text) ++ l) (sym (log-goes (c .args .rows) (c .loop-number .records) (c .in-Some .number) (c .in-Some .bytes .now) (to-come reader) (to-come (c .next .last .self)) (next .0) counts (c .in-Ok .record) (c .in-Ok .ensures tt .value)))
-     ∙ c .loop-number .inv .3)
+    let more = log-text (c .args .rows) (c .in-Some .number) (to-come (c .next .last .self)) in (
+      tt,
+      tt,
+      next .1 ∙ sym (next .2),
+      ap (λ l. l ++ more) (c .in-Continue-write-record .ensures tt) ∙ append-assoc (string-bytes (c .loop-number .text)) (record-line (c .in-Some .number) (c .in-Ok .record)) more
+          ∙ ap (λ l. string-bytes (c .loop-number .text) ++ l) (sym (log-goes (c .args .rows) (c .loop-number .records) (c .in-Some .number) (c .in-Some .bytes .now) (to-come reader) (to-come (c .next .last .self)) (next .0) counts (c .in-Ok .record) (c .in-Ok .ensures tt .value)))
+          ∙ c .loop-number .inv .3,
+    )
 
 pub returns : need.returns
 returns c =

@@ -1,7 +1,7 @@
 use mathlib.Core.Path.{_≡_}
 use mathlib.Core.List.{_++_}
 use Rattle.std.specs.Of.String.{string-bytes}
-use Rattle.controller_log.specs.Bytes.{pieces}
+use Rattle.controller_log.specs.Pieces.{pieces}
 use Rattle.controller_log.specs.Readers.{to-come}
 use Rattle.inspection.specs.Listing.{log-text}
 use Rattle.inspection.proofs.write_log.Given as given

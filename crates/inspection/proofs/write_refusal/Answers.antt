@@ -12,5 +12,5 @@ pub returns : need.returns
 returns c =
     made-weaker (c .add .result) _ _
     (λ _ h. h
-        ∙ ap (λ n. string-bytes (c .args .text .now) ++ text (codes "refused " ∷ decimal n ∷ codes " at record " ∷ decimal (c .args .number) ∷ line-feed ∷ wording (told (c .args .refusal)) ∷ line-feed ∷ [])) (c .number-refused .ensures))
+    ∙ ap (λ n. string-bytes (c .args .text .now) ++ text (codes "refused " ∷ decimal n ∷ codes " at record " ∷ decimal (c .args .number) ∷ line-feed ∷ wording (told (c .args .refusal)) ∷ line-feed ∷ [])) (c .number-refused .ensures))
     (c .add .ensures)

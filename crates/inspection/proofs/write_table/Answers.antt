@@ -25,8 +25,9 @@ loop-channel-again c =
     let some : 1 ≤ channel = omega arith in
     let begun = string-bytes (c .args .text .now) in
     let told = c .in-Continue-rows .ensures tt in
-    let one = told .count ∙ ap (λ p. cond (isSome p) 1 0) (c .lookup .ensures) in
-    (told .line ∙ ap (λ l. l ++ row-lines channel (c .lookup .result)) (c .loop-channel .inv .0) ∙ append-assoc begun (rows-text t (channel - 1)) (row-lines channel (c .lookup .result))
-     ∙ ap (λ p. begun ++ (rows-text t (channel - 1) ++ row-lines channel p)) (c .lookup .ensures) ∙ ap (λ l. begun ++ l) (sym (rows-text-more t channel some)),
-     omega (arith, one, rows-count-more t channel some, c .loop-channel .inv .1),
-     omega (arith, told .count, at-most-one (isSome (c .lookup .result)), c .loop-channel .inv .2))
+    let one = told .count ∙ ap (λ p. cond (isSome p) 1 0) (c .lookup .ensures) in (
+      told .line ∙ ap (λ l. l ++ row-lines channel (c .lookup .result)) (c .loop-channel .inv .0) ∙ append-assoc begun (rows-text t (channel - 1)) (row-lines channel (c .lookup .result))
+          ∙ ap (λ p. begun ++ (rows-text t (channel - 1) ++ row-lines channel p)) (c .lookup .ensures) ∙ ap (λ l. begun ++ l) (sym (rows-text-more t channel some)),
+      omega (arith, one, rows-count-more t channel some, c .loop-channel .inv .1),
+      omega (arith, told .count, at-most-one (isSome (c .lookup .result)), c .loop-channel .inv .2),
+    )

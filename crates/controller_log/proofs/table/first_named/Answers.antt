@@ -1,7 +1,7 @@
 use borrow.Author.Needs.{needs}
 use mathlib.Core.Path.{sym, _∙_}
 use native.Mathlib.Omega.{arith}
-use Rattle.controller_log.specs.Tables.{if-named}
+use Rattle.controller_log.specs.LeadRows.{if-named}
 use Rattle.controller_log.proofs.Leads.{lead-here, lead-later, lead-nowhere}
 use Rattle.controller_log.proofs.table.first_named.Needs as need
 

@@ -1,7 +1,7 @@
 use mathlib.Core.Path.{_≡_}
 use mathlib.Core.List.{map}
 use lib.ListN.{drop}
-use Rattle.controller_log.specs.Tables.{if-named, first-row}
+use Rattle.controller_log.specs.LeadRows.{if-named, first-row}
 use Rattle.controller_log.proofs.table.first_named.Given as given
 
 abbrev pub Inv-loop-place : given.InvT-loop-place

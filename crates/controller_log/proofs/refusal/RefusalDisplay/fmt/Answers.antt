@@ -12,7 +12,7 @@ unfolding wording
 returns-in-Some g c =
     let e = told (c .args .self .now) in
     let text : c .words-words .result .now ++ (codes ", row " ++ decimal (c .in-Some .row)) ≡ wording e =
-        ap (λ t. t ++ (codes ", row " ++ decimal (c .in-Some .row))) (c .words-words .ensures) ∙ ap (at-row (getD words (e .number) [])) (c .in-Some .ensures tt) in
+    ap (λ t. t ++ (codes ", row " ++ decimal (c .in-Some .row))) (c .words-words .ensures) ∙ ap (at-row (getD words (e .number) [])) (c .in-Some .ensures tt) in
     subst (λ bs. Prints (g .W·Write .took) (c .args .f .now) (c .write .result) bs (c .write .last .self)) text (c .write .ensures .shows)
 
 pub returns-in-None : need.returns-in-None

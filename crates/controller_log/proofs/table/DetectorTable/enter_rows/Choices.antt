@@ -2,7 +2,7 @@ use mathlib.Core.Path.{_≡_}
 use Prim.Native.Nat.{_+_, _%_}
 use lib.ListN.{length}
 use Rattle.std.specs.Parts.{chunks-exact-rest, chunks-exact-size, enumerate-source, enumerate-count}
-use Rattle.controller_log.specs.Bytes.{pieces}
+use Rattle.controller_log.specs.Pieces.{pieces}
 use Rattle.controller_log.specs.Limits.{record-size}
 use Rattle.controller_log.specs.Tables.{entered, no-rows}
 use Rattle.controller_log.proofs.table.DetectorTable.enter_rows.Given as given

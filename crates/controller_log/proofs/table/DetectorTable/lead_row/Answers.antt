@@ -1,5 +1,5 @@
 use mathlib.Core.Path.{sym, subst}
-use Rattle.controller_log.specs.Tables.{Lowest}
+use Rattle.controller_log.specs.LeadRows.{Lowest}
 use Rattle.controller_log.proofs.Leads.{lowest}
 use Rattle.controller_log.proofs.table.DetectorTable.lead_row.Needs as need
 

@@ -1,7 +1,8 @@
 use borrow.Author.Needs.{needs}
 use mathlib.Core.Path.{_≡_, sym, subst}
 use Rattle.controller_log.specs.Refusals.{answer}
-use Rattle.controller_log.specs.Tables.{read-table, Table-rules}
+use Rattle.controller_log.specs.TableRules.{Table-rules}
+use Rattle.controller_log.specs.Tables.{read-table}
 use Rattle.controller_log.proofs.Rules.{rules-kept}
 use Rattle.controller_log.proofs.table.DetectorTable.read.Needs as need
 
