@@ -27,9 +27,11 @@ text [] = []
 text (p ∷ []) = p
 text (p ∷ q ∷ ps) = p ++ text (q ∷ ps)
 
+-- the end of a line
 abbrev pub line-feed : List ℕ
 line-feed = 10 ∷ []
 
+-- the line of a detector row
 abbrev pub row-line : ℕ → DetectorRow → List ℕ
 row-line channel d =
     text
@@ -48,6 +50,7 @@ abbrev pub event-end : Option Event → List ℕ
 event-end None = line-feed
 event-end (Some e) = text (codes ", " ∷ event-name e ∷ line-feed ∷ [])
 
+-- the line of a record
 abbrev pub record-line : ℕ → Record → List ℕ
 record-line number r = record-start number r (event-end (event (r .code)))
 
@@ -55,9 +58,11 @@ record-line number r = record-start number r (event-end (event (r .code)))
 abbrev pub refused-lines : ℕ → Told → List ℕ
 refused-lines number e = text (codes "refused " ∷ decimal (e .number) ∷ codes " at record " ∷ decimal number ∷ line-feed ∷ wording e ∷ line-feed ∷ [])
 
+-- the line that sums up
 abbrev pub summary : ℕ → ℕ → List ℕ
 summary rows records = text (codes "detector rows: " ∷ decimal rows ∷ codes ", records: " ∷ decimal records ∷ line-feed ∷ [])
 
+-- the line of a channel, if it has a row
 abbrev pub row-lines : ℕ → Option DetectorRow → List ℕ
 row-lines channel None = []
 row-lines channel (Some d) = row-line channel d
@@ -82,6 +87,7 @@ abbrev pub log-text : ℕ → ℕ → List (List ℕ) → List ℕ
 log-text rows n [] = summary rows n
 log-text rows n (bs ∷ more) = record-lines (n + 1) (read-record bs) (log-text rows (n + 1) more)
 
+-- the rows and then the log, or the refusal of the table
 abbrev pub table-text : Result DetectorTable Told → List (List ℕ) → List ℕ
 table-text (Ok t) records = rows-text t channels ++ log-text (rows-count t channels) 0 records
 table-text (Err e) records = refused-lines 0 e
