@@ -1,5 +1,6 @@
 pub mod Entering
 pub mod Leads
 pub mod Pieces
+pub mod RowFacts
 pub mod Rules
 pub mod WrittenBack

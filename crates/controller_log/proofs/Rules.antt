@@ -6,18 +6,17 @@ use mathlib.Core.List.{List, [], _∷_, _++_, append-nil, append-assoc}
 use Prim.Native.Nat.{ℕ, _+_, _-_, _%_, _<_, _≤_}
 use native.Mathlib.Omega.{arith}
 use lib.Dec.{eqb, leb}
-use lib.ListN.{length, getD, set, length-append}
+use lib.ListN.{length, getD, set}
 use Rattle.std.proofs.shelf.Lists.{getD-replicate, getD-set-same, getD-set-other, length-set, length-push}
-use Rattle.std.proofs.shelf.Tests.{and-parts, and-from, leb-true, eqb-true, eq-eqb, le-leb, cases-eq, cases-bool, cond-true, true≢false}
-use Rattle.std.proofs.shelf.Ways.{tells}
+use Rattle.std.proofs.shelf.Tests.{and-parts, and-from, leb-true, eqb-true, eq-eqb, le-leb, cases-eq, cond-true, true≢false}
 use Rattle.std.specs.Options.{isSome}
 use Rattle.std.specs.declared.option.Option.{Option}
 use Rattle.std.specs.declared.option.Option.the-variants.{Some, None}
 use Rattle.std.specs.declared.result.Result.{Result}
 use Rattle.std.specs.declared.result.Result.the-variants.{Ok, Err}
 use Rattle.controller_log.specs.Pieces.{pieces}
-use Rattle.controller_log.specs.Detectors.{within, read-row, row-fields}
-use Rattle.controller_log.specs.Limits.{record-size, channels, all-uses, max-table-size}
+use Rattle.controller_log.specs.Detectors.{within, read-row}
+use Rattle.controller_log.specs.Limits.{channels}
 use Rattle.controller_log.specs.Refusals.{Told, told, then}
 use Rattle.controller_log.specs.TableRules.{Lists, Sound, Holds, First-fault, Table-rules}
 use Rattle.controller_log.specs.Tables.{lookup, no-rows, with-row, enter, entered, table-length, read-table}
@@ -25,20 +24,7 @@ use Rattle.controller_log.specs.declared.detector.DetectorRow.{DetectorRow}
 use Rattle.controller_log.specs.declared.refusal.Refusal.the-variants.{TableLength, RowOutOfRange, ChannelRepeated}
 use Rattle.controller_log.specs.declared.table.DetectorTable.{DetectorTable}
 use Rattle.controller_log.proofs.Entering.{entered-more, entered-twice}
-
-cond-some : {X : Type 0} (b : Bool) (x y : X) → cond b (Some x) None ≡ Some y → (b ≡ true) × (x ≡ y)
-cond-some true x y e = (refl, (cc))
-cond-some false x y e = absurd (let z : _≡_ {A = ℕ} 0 1 = cc in omega arith)
-
--- a row that reads is of a channel from 1 to 64
-read-channel : (row : List ℕ) (channel : ℕ) (d : DetectorRow) → read-row row ≡ Some (channel, d) → within 1 channels channel ≡ true
-read-channel row channel d e =
-    let p = cond-some _ _ _ e in
-    let size = and-parts (eqb (length row) record-size) _ (p .0) in
-    let uses = and-parts (leb (getD row 2 0) all-uses) _ (size .1) in
-    let zero = and-parts (eqb (getD row 3 0) 0) _ (uses .1) in
-    let range = and-parts (within 1 channels (getD row 0 0)) _ (zero .1) in
-    subst (λ c. within 1 channels c ≡ true) (ap (λ w. w .0) (p .1)) (range .0)
+use Rattle.controller_log.proofs.RowFacts.{row-facts}
 
 within-bounds : (low high n : ℕ) → within low high n ≡ true → (low ≤ n) × (n ≤ high)
 within-bounds low high n e = let p = and-parts (leb low n) (leb n high) e in (leb-true low n (p .0), leb-true n high (p .1))
@@ -103,7 +89,7 @@ pub record Sofar (rows : List (List ℕ)) (t : DetectorTable) : Type 0 where
 sofar-more : (rows : List (List ℕ)) (t : DetectorTable) (row : List ℕ) (c : ℕ) (d : DetectorRow) → Sofar rows t → read-row row ≡ Some (c, d) → isSome (lookup t c) ≡ false → Sofar (rows ++ row ∷ []) (with-row t c d)
 sofar-more rows t row c d s e free =
     let h = s .holds in
-    let range = read-channel row c d e in
+    let range = row-facts row (c, d) e .channel in
     let new : (f : DetectorRow) → Lists rows c f → ⊥ = λ f l. not-some (lookup t c) f free (h .held c f l) in
     record {
       size = length-set (t .places) (c - 1) (Some d) ∙ s .size;

@@ -15,13 +15,14 @@ use Rattle.std.specs.declared.option.Option.the-variants.{Some, None}
 use Rattle.std.specs.declared.result.Result.{Result}
 use Rattle.std.specs.declared.result.Result.the-variants.{Ok, Err}
 use Rattle.controller_log.specs.Bytes.{two-bytes, four-bytes}
-use Rattle.controller_log.specs.Detectors.{uses-of, uses-byte, in-range, row-fields, read-row, row-bytes}
+use Rattle.controller_log.specs.Detectors.{uses-of, uses-byte, row-fields, read-row, row-bytes}
 use Rattle.controller_log.specs.Limits.{record-size, all-uses, max-moment}
 use Rattle.controller_log.specs.Records.{fields, read-record, record-bytes}
 use Rattle.controller_log.specs.Refusals.{Told, answer}
 use Rattle.controller_log.specs.declared.detector.DetectorRow.{DetectorRow}
 use Rattle.controller_log.specs.declared.record.Record.{Record}
 use Rattle.controller_log.specs.declared.refusal.Refusal.{Refusal}
+use Rattle.controller_log.proofs.RowFacts.{row-facts}
 
 eight-bytes : (bs : List ℕ) → length bs ≡ 8 → getD bs 0 0 ∷ getD bs 1 0 ∷ getD bs 2 0 ∷ getD bs 3 0 ∷ getD bs 4 0 ∷ getD bs 5 0 ∷ getD bs 6 0 ∷ getD bs 7 0 ∷ [] ≡ bs
 eight-bytes [] n = absurd (omega arith)
@@ -49,10 +50,6 @@ uses-back b h = grind (arith, tells)
 passed : {X : Type 0} (b : Bool) (r : Result X Told) (e : Told) (x : X) → Ok x ≡ cond b r (Err e) → (b ≡ true) × (Ok x ≡ r)
 passed true r e x h = (refl, h)
 passed false r e x h = absurd (let z : _≡_ {A = ℕ} 0 1 = cc in omega arith)
-
-kept : {X : Type 0} (b : Bool) (x y : X) → Some x ≡ cond b (Some y) None → (b ≡ true) × (x ≡ y)
-kept true x y h = (refl, (cc))
-kept false x y h = absurd (let z : _≡_ {A = ℕ} 0 1 = cc in omega arith)
 
 module _ (bs : List ℕ) (size : length bs ≡ 8) (bytes : (i : ℕ) → getD bs i 0 < 256) where
   two-back : (i : ℕ) → (two-bytes bs i % 256 ≡ getD bs i 0) × (two-bytes bs i / 256 % 256 ≡ getD bs (i + 1) 0)
@@ -99,8 +96,5 @@ module _ (bs : List ℕ) (bytes : (i : ℕ) → getD bs i 0 < 256) where
   pub row-kept : (r : Option (ℕ × DetectorRow)) → r ≡ read-row bs → Cases r (Unit {0}) (λ w. row-bytes (w .0) (w .1) ≡ bs)
   row-kept None e = tt
   row-kept (Some w) e =
-      let k = kept (eqb (length bs) record-size && (leb (getD bs 2 0) all-uses && (eqb (getD bs 3 0) 0 && in-range (getD bs 0 0) (row-fields bs)))) w (getD bs 0 0, row-fields bs) e in
-      let size = and-parts (eqb (length bs) record-size) _ (k .0) in
-      let uses = and-parts (leb (getD bs 2 0) all-uses) _ (size .1) in
-      let zero = and-parts (eqb (getD bs 3 0) 0) _ (uses .1) in
-      ap (λ v. row-bytes (v .0) (v .1)) (k .1) ∙ row-back bs (eqb-true _ _ (size .0)) bytes (leb-true _ _ (uses .0)) (eqb-true _ _ (zero .0))
+      let f = row-facts bs w (sym e) in
+      ap (λ v. row-bytes (v .0) (v .1)) (sym (f .same)) ∙ row-back bs (f .size) bytes (f .uses) (f .zero-byte)

@@ -21,6 +21,6 @@ pub const MAX_TRAVEL: u16 = 200;
 pub const MAX_LATENCY: u16 = 50;
 
 // A detector table has one place a channel, so its file is at most this long.
-pub const TABLE_PLACES: usize = 64;
+pub const TABLE_PLACES: usize = CHANNELS as usize;
 
-pub const MAX_TABLE_SIZE: usize = 512;
+pub const MAX_TABLE_SIZE: usize = TABLE_PLACES * RECORD_SIZE;
