@@ -1,4 +1,6 @@
 // Tests of the formats at the edges of every range, both sides.
+#![tactic(auto)]
+
 #[cfg(test)]
 mod cases;
 #[cfg(test)]

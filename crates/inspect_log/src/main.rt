@@ -1,4 +1,6 @@
 // Prints detectors.bin and log.bin of a folder in readable form: the current one, or the one named as its argument.
+#![tactic(auto)]
+
 use inspection::inspect;
 use std::io::ErrorKind;
 use std::path::{Path, PathBuf};

@@ -1,4 +1,6 @@
 // A detector table and a log as text that a technician reads, exact to the byte.
+#![tactic(auto)]
+
 ghost use Rattle.std.specs.Prelude.{◌≡◌, ◌++◌, is_some, IfSome, IfOk, if◌then◌else◌, string_bytes, OnOk};
 ghost use Rattle.controller_log.specs.Limits.{channels};
 ghost use Rattle.controller_log.specs.Pieces.{pieces};

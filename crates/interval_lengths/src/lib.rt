@@ -1,5 +1,7 @@
 // How long each interval of a phase lasts: the smallest measure of use, as an example of adding one.
 // A cycle runs from one begin of green to the next: green, yellow, red clearance, red.
+#![tactic(auto)]
+
 ghost use Rattle.std.specs.Prelude.{◌≡◌};
 ghost use Rattle.interval_lengths.specs.IntervalLengths.{interval_lengths, lengths_lawful, Lengths, tally};
 ghost use Rattle.measures.specs.Meanings.{Calls, Whole, tallied, MayClose, Answers};

@@ -1,4 +1,6 @@
 // Tests of the measures on whole cycles: worked examples, and both sides of every limit.
+#![tactic(auto)]
+
 #[cfg(test)]
 mod arrivals_figures;
 #[cfg(test)]

@@ -1,4 +1,6 @@
 // What is counted in a signal cycle: one trait for every measure, three measures, and the debouncing layer over any of them.
+#![tactic(auto)]
+
 pub mod arrivals;
 pub mod channels;
 pub mod cycle;

@@ -11,11 +11,11 @@ returns-in-Err c =
     let reader = c.loop-number.number-iterator in
     let next = c.in-Some.ensures.steps in
     let counts : c.in-Some.number ≡ c.loop-number.records + 1 = omega (arith, next.1, c.loop-number.invariant.2) in
-    IfOk-weaker c.write-refusal.result _ _
+    IfOk-weaker c.write_refusal.result _ _
     (λ _ h. h
     ∙ ap (λ l. string_bytes c.loop-number.text ++ l) (sym (log_stops c.args.rows c.loop-number.records c.in-Some.number c.in-Some.bytes.now (yet_to_come reader) (yet_to_come c.next.new.self) next.0 counts (told c.in-Err.refusal) c.in-Err.ensures.value))
     ∙ c.loop-number.invariant.3)
-    c.write-refusal.ensures
+    c.write_refusal.ensures
 
 pub loop-number-preserved : goal.loop-number-preserved
 loop-number-preserved c =
@@ -26,7 +26,7 @@ loop-number-preserved c =
       tt,
       tt,
       next.1 ∙ sym next.2,
-      ap (λ l. l ++ more) c.in-ok-write-record.ensures ∙ append_assoc (string_bytes c.loop-number.text) (record_line c.in-Some.number c.in-Ok.record) more
+      ap (λ l. l ++ more) c.in_ok-write_record.ensures ∙ append_assoc (string_bytes c.loop-number.text) (record_line c.in-Some.number c.in-Ok.record) more
           ∙ ap (λ l. string_bytes c.loop-number.text ++ l) (sym (log_goes c.args.rows c.loop-number.records c.in-Some.number c.in-Some.bytes.now (yet_to_come reader) (yet_to_come c.next.new.self) next.0 counts c.in-Ok.record c.in-Ok.ensures.value))
           ∙ c.loop-number.invariant.3,
     )

@@ -18,7 +18,7 @@ loop-channel-preserved c =
     let channel = c.loop-channel.channel in
     let some : 1 ≤ channel = omega arith in
     let begun = string_bytes c.args.text.now in
-    let told = c.in-ok-rows.ensures in
+    let told = c.in_ok-rows.ensures in
     let one = told.count ∙ ap (λ p. cond (is_some p) 1 0) c.lookup.ensures in (
       told.line ∙ ap (λ l. l ++ row_lines channel c.lookup.result) c.loop-channel.invariant.0 ∙ append_assoc begun (rows_text t (channel - 1)) (row_lines channel c.lookup.result)
           ∙ ap (λ p. begun ++ (rows_text t (channel - 1) ++ row_lines channel p)) c.lookup.ensures ∙ ap (λ l. begun ++ l) (sym (rows_text_more t channel some)),

@@ -16,4 +16,4 @@ unfolding wording
 returns-in-None-clause-writes g c =
     let e = told c.args.self.now in
     let text : c.words-words.result.now ≡ wording e = c.words-words.ensures ∙ ap (at_row (get_or words e.number [])) c.in-None.ensures in
-    subst (λ bs. WritesOnOk g.W.Write.write_str_gives c.args.f.now c.write-str.result bs c.write-str.new.self) text c.write-str.ensures.writes
+    subst (λ bs. WritesOnOk g.W.Write.write_str_gives c.args.f.now c.write_str.result bs c.write_str.new.self) text c.write_str.ensures.writes

@@ -22,17 +22,17 @@ loop-i-preserved c =
     let rest = chunks_exact_rest (enumerate_source c.next.new.self) in
     let i = c.in-Some.i in
     let u = c.enter.new.self in
-    let goes = entered_goes (i + 1) c.loop-i.table c.in-Some.row.now (pieces (chunks_exact_rest (enumerate_source c.loop-i.i-iterator))) (pieces rest) (next_row (goal.at.loop-i-preserved c).In-Some) u c.in-ok-enter.ensures in
+    let goes = entered_goes (i + 1) c.loop-i.table c.in-Some.row.now (pieces (chunks_exact_rest (enumerate_source c.loop-i.i-iterator))) (pieces rest) (next_row (goal.at.loop-i-preserved c).In-Some) u c.in_ok-enter.ensures in
     let count : enumerate_count c.next.new.self + 1 ≡ i + 1 + 1 = omega (arith, s.1, s.2) in (
       s.0.0 ∙ c.loop-i.invariant.0,
       omega (arith, ap length s.0.1.0 ∙ length-append c.in-Some.row.now rest),
       ap (λ n. entered n u (pieces rest)) count ∙ sym goes ∙ ap (λ n. entered (n + 1) c.loop-i.table (pieces (chunks_exact_rest (enumerate_source c.loop-i.i-iterator)))) s.1 ∙ c.loop-i.invariant.2,
     )
 
-pub returns-in-err-enter : goal.returns-in-err-enter
-returns-in-err-enter c =
+pub returns-in_err-enter : goal.returns-in_err-enter
+returns-in_err-enter c =
     let s = c.in-Some.ensures.steps in
-    let p = err_from_is_err_and c.from-residual.result c.from-residual.ensures.1 in
-    let stops = entered_stops (c.in-Some.i + 1) c.loop-i.table c.in-Some.row.now (pieces (chunks_exact_rest (enumerate_source c.loop-i.i-iterator))) (pieces (chunks_exact_rest (enumerate_source c.next.new.self))) (next_row (goal.at.returns-in-err-enter c).In-Some) (told c.in-err-enter.field-0.0) c.in-err-enter.ensures in
+    let p = err_from_is_err_and c.from_residual.result c.from_residual.ensures.1 in
+    let stops = entered_stops (c.in-Some.i + 1) c.loop-i.table c.in-Some.row.now (pieces (chunks_exact_rest (enumerate_source c.loop-i.i-iterator))) (pieces (chunks_exact_rest (enumerate_source c.next.new.self))) (next_row (goal.at.returns-in_err-enter c).In-Some) (told c.in_err-enter.field-0.0) c.in_err-enter.ensures in
     ap answer p.1 ∙ ap (λ e. Err (told e)) p.2 ∙ sym stops
     ∙ ap (λ n. entered (n + 1) c.loop-i.table (pieces (chunks_exact_rest (enumerate_source c.loop-i.i-iterator)))) s.1 ∙ c.loop-i.invariant.2

@@ -8,5 +8,5 @@ use Rattle.controller_log.proofs.table.DetectorTable.read.Goals as goal
 pub returns : goal.returns
 returns c =
     let bs = c.args.bytes.now in
-    let value : answer c.enter-rows.result ≡ read_table bs = search rules in
+    let value : answer c.enter_rows.result ≡ read_table bs = search rules in
     record { value = value; rules = subst (TableRules bs) (sym value) (rules_kept bs) }
