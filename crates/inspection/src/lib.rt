@@ -119,8 +119,8 @@ fn write_refusal(text: &mut String, number: usize, refusal: Refusal) -> Result<(
 }
 
 // Text that goes to a string can only fail for want of memory.
-fn add(text: &mut String, more: impl fmt::Display + Drop) -> Result<(), AllocError>
-    ensures { OnOk result (IfSome (output more) (λ bs. string_bytes text.new ≡ string_bytes text.old ++ bs)) }
+fn add<D: fmt::Display + Drop>(text: &mut String, more: D) -> Result<(), AllocError>
+    ensures { OnOk result (IfSome (D.output more) (λ bs. string_bytes text.new ≡ string_bytes text.old ++ bs)) }
 {
     match text.write(more) {
         Ok(()) => Ok(()),

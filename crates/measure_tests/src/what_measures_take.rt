@@ -29,11 +29,17 @@ fn row(travel: u16, latency: u16) -> DetectorRow {
 #[test]
 fn cycle_codes(rt: HostRuntime) {
     assert_eq!(rt; <Arrivals as Measure>::opening_code(), 9);
-    assert_eq!(rt; <Arrivals as Measure>::further_codes(), &[1u8, 8]);
+    assert_eq!(rt; <Arrivals as Measure>::further_codes(), [1u8, 8].as_slice());
     assert_eq!(rt; <SplitFailures as Measure>::opening_code(), 1);
-    assert_eq!(rt; <SplitFailures as Measure>::further_codes(), &[8u8, 9]);
+    assert_eq!(rt;
+        <SplitFailures as Measure>::further_codes(),
+        [8u8, 9].as_slice()
+    );
     assert_eq!(rt; <RedLight as Measure>::opening_code(), 8);
-    assert_eq!(rt; <RedLight as Measure>::further_codes(), &[9u8, 11, 1]);
+    assert_eq!(rt;
+        <RedLight as Measure>::further_codes(),
+        [9u8, 11, 1].as_slice()
+    );
 }
 
 #[test]

@@ -26,7 +26,7 @@ loop-number-preserved c =
       tt,
       tt,
       next.1 ∙ sym next.2,
-      ap (λ l. l ++ more) c.in_ok-write_record.ensures ∙ append_assoc (string_bytes c.loop-number.text) (record_line c.in-Some.number c.in-Ok.record) more
+      ap (λ l. l ++ more) c.in_ok-write_record-in-Ok.ensures ∙ append_assoc (string_bytes c.loop-number.text) (record_line c.in-Some.number c.in-Ok.record) more
           ∙ ap (λ l. string_bytes c.loop-number.text ++ l) (sym (log_goes c.args.rows c.loop-number.records c.in-Some.number c.in-Some.bytes.now (yet_to_come reader) (yet_to_come c.next.new.self) next.0 counts c.in-Ok.record c.in-Ok.ensures.value))
           ∙ c.loop-number.invariant.3,
     )

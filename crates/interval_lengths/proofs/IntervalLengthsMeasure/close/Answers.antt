@@ -6,5 +6,5 @@ use Rattle.interval_lengths.proofs.IntervalLengthsMeasure.close.Goals as goal
 pub returns : goal.returns
 returns c = record {
   figures = c.figures.ensures;
-  whole-cycle = λ d w e. of_answer interval_lengths d c.args.moment w _ _ (Lengths d c.args.moment) c.figures.ensures e (lengths_of_cycle d c.args.moment w);
+  whole_cycle = λ d w e. of_answer interval_lengths d c.args.moment w _ _ (Lengths d c.args.moment) c.figures.ensures e (lengths_of_cycle d c.args.moment w);
 }

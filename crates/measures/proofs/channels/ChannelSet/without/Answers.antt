@@ -10,11 +10,11 @@ in_range : (q c : ℕ) → holds q c ≡ true → (1 ≤ c) × (c ≤ 64)
 unfolding holds
 in_range q c h = (grind (arith, nat_tests), grind (arith, nat_tests))
 
-pub overflow-sub-result : goal.overflow-sub-result
-overflow-sub-result c = (in_range _ _ (sym c.if-contains.ensures)).0
+pub overflow_sub-result : goal.overflow_sub-result
+overflow_sub-result c = (in_range _ _ (sym c.if-contains.ensures)).0
 
-pub overflow-shl-result : goal.overflow-shl-result
-overflow-shl-result c = omega (arith, in_range c.args.self.mask c.args.leaving (sym c.if-contains.ensures))
+pub overflow_shl-result : goal.overflow_shl-result
+overflow_shl-result c = omega (arith, in_range c.args.self.mask c.args.leaving (sym c.if-contains.ensures))
 
 pub returns-then-contains : goal.returns-then-contains
 unfolding removed

@@ -10,5 +10,5 @@ returns g c =
     let down = may_close_below below (m.lawful (m.settings s)) c.args.self.now.on.mask (m.tally s) c.args.moment in
     record {
       figures = λ h. let a = c.close.ensures.figures (down h) in record { value = a.value; bound = a.bound };
-      whole-cycle = debounced_figures below (m.lawful (m.settings s)) c.args.self.now.on.mask (m.tally s) c.args.moment c.close.result (λ h. (c.close.ensures.figures (down h)).value);
+      whole_cycle = debounced_figures below (m.lawful (m.settings s)) c.args.self.now.on.mask (m.tally s) c.args.moment c.close.result (λ h. (c.close.ensures.figures (down h)).value);
     }

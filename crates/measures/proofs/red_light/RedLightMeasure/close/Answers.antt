@@ -8,5 +8,5 @@ returns c =
     let S = c.args.self.now.severity.tenths in
     record {
       figures = c.figures.ensures;
-      whole-cycle = λ d w e. of_answer (red_light S) d c.args.moment w _ _ (RedLightFigures S d c.args.moment) c.figures.ensures e (figures_of_cycle S d c.args.moment w);
+      whole_cycle = λ d w e. of_answer (red_light S) d c.args.moment w _ _ (RedLightFigures S d c.args.moment) c.figures.ensures e (figures_of_cycle S d c.args.moment w);
     }

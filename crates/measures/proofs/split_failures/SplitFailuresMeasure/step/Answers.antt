@@ -8,5 +8,5 @@ returns-in-8 c = record { same = refl; after = λ h. let r = room_to_step _ _ h 
 pub returns-in-9 : goal.returns-in-9
 returns-in-9 c = record { same = refl; after = λ h. let r = room_to_step _ _ h in search rules }
 
-pub returns-in-default : goal.returns-in-default
-returns-in-default c = record { same = refl; after = λ h. let r = room_to_step _ _ h in search rules }
+pub returns-in_default : goal.returns-in_default
+returns-in_default c = record { same = refl; after = λ h. let r = room_to_step _ _ h in search rules }
