@@ -1,5 +1,5 @@
 -- One row more enters a table, or is refused.
-use Rattle.std.proofs.Common.{◌≡◌, ℕ, ◌+◌, true, false, cond, List, ◌∷◌, is_some, Some, None, Ok, Err, sym, refl, ap, ◌∙◌}
+use Rattle.std.proofs.Common.{◌≡◌, ℕ, ◌+◌, true, false, cond, List, ◌∷◌, is_some, Some, Ok, Err, sym, ap, ◌∙◌}
 use Rattle.controller_log.specs.Detectors.{read_row}
 use Rattle.controller_log.specs.Refusals.{Told, told, then}
 use Rattle.controller_log.specs.Tables.{lookup, with_row, enter, entered}

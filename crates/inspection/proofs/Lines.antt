@@ -1,5 +1,5 @@
 -- One line more of a text.
-use Rattle.std.proofs.Common.{◌≡◌, ℕ, suc, ◌+◌, ◌-◌, ◌≤◌, cond, List, [], ◌∷◌, ◌++◌, is_some, Ok, Err, Result, sym, refl, ap, ◌∙◌, append_assoc, arith}
+use Rattle.std.proofs.Common.{◌≡◌, ℕ, suc, ◌+◌, ◌-◌, ◌≤◌, cond, List, [], ◌∷◌, ◌++◌, is_some, Ok, Err, sym, refl, ap, ◌∙◌, arith}
 use Rattle.controller_log.specs.Records.{read_record}
 use Rattle.controller_log.specs.Refusals.{Told}
 use Rattle.controller_log.specs.Tables.{lookup}

@@ -1,5 +1,5 @@
 -- The moments that the tally keeps are those of the further codes.
-use Rattle.std.proofs.Common.{◌≡◌, ℕ, cond, eqb, List, [], ◌∷◌, ◌++◌, sym, refl, ap, ◌∙◌, subst}
+use Rattle.std.proofs.Common.{◌≡◌, ℕ, cond, eqb, List, [], ◌∷◌, ◌++◌, sym, refl, ap, ◌∙◌}
 use Rattle.std.proofs.lemmas.List.Sums.{fold_push}
 use Rattle.interval_lengths.specs.IntervalLengths.{interval_lengths, lengths_lawful, Lengths, yellow_at, clearance_at, red_at}
 use Rattle.measures.specs.Meanings.{Calls, ◌▹◌, tallied, Admissible, Whole}

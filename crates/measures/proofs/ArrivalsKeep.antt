@@ -1,14 +1,14 @@
 -- What the arrivals tally keeps along admissible calls, and its figures at the close of a whole cycle.
-use Rattle.std.proofs.Common.{◌≡◌, ℕ, ◌+◌, ◌-◌, ◌*◌, ◌^◌, ◌<◌, ◌≤◌, Bool, true, false, cond, ◌&&◌, eqb, ltb, leb, List, [], ◌∷◌, ◌++◌, length, get_or, sum_by, sym, refl, ap, ◌∙◌, subst, arith}
+use Rattle.std.proofs.Common.{◌≡◌, ℕ, ◌+◌, ◌-◌, ◌*◌, ◌^◌, ◌<◌, ◌≤◌, true, false, cond, ◌&&◌, eqb, ltb, leb, List, [], ◌∷◌, ◌++◌, length, get_or, sym, refl, ◌∙◌, subst, arith}
 use Rattle.std.specs.List.{AllByRecursion as All}
 use Rattle.std.proofs.ByRecursion.{All-weaker}
 use Rattle.std.proofs.lemmas.Bool.{cond-true}
 use Rattle.std.proofs.lemmas.Bool.Decides.{nat_tests}
-use Rattle.measures.specs.Arrivals.{Tally, listed, unlisted, first, counted, to_green, to_yellow, next, figures, figures_at, arrivals, arrivals_lawful, green_at, yellow_at, ArrivalFigures}
+use Rattle.measures.specs.Arrivals.{Tally, unlisted, counted, to_green, to_yellow, next, figures, arrivals, arrivals_lawful, green_at, yellow_at, ArrivalFigures}
 use Rattle.measures.specs.Intervals.{shown}
 use Rattle.measures.specs.Limits.{most_records}
-use Rattle.measures.specs.Meanings.{Calls, opening_at, ◌▹◌, tallied, Fits, Before, Admissible, Whole, MayStep, MayClose}
-use Rattle.measures.specs.Records.{among, activation, detector, moment_of, count, total}
+use Rattle.measures.specs.Meanings.{Calls, tallied, Fits, Admissible, Whole, MayStep, MayClose}
+use Rattle.measures.specs.Records.{activation, count, total}
 use Rattle.measures.specs.declared.interval.Interval.TheVariants.{Green, Yellow, Red}
 use Rattle.measures.specs.declared.own.OwnRecord.{OwnRecord}
 use Rattle.measures.proofs.Along.{marks, so_far}

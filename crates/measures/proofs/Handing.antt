@@ -1,14 +1,14 @@
 -- What the debouncing layer hands down of admissible calls, and that these are admissible for the measure below.
-use Rattle.std.proofs.Common.{◌≡◌, ℕ, suc, ◌+◌, ◌<◌, ◌≤◌, Bool, true, false, cond, ◌&&◌, ◌||◌, eqb, ◌⊎◌, List, [], ◌∷◌, ◌++◌, map, length, Some, None, fold, filter, Option, sym, refl, ap, ◌∙◌, subst, inl, inr, append_assoc, arith}
+use Rattle.std.proofs.Common.{◌≡◌, ℕ, suc, ◌≤◌, Bool, true, false, cond, ◌&&◌, eqb, List, [], ◌∷◌, ◌++◌, length, Some, None, filter, sym, refl, ap, ◌∙◌, subst, append_assoc, arith}
 use Rattle.std.specs.List.{AllByRecursion as All}
 use Rattle.std.proofs.lemmas.List.Elements.{filter-append}
 use Rattle.std.proofs.lemmas.List.{append-nil}
 use Rattle.std.proofs.lemmas.List.Sums.{fold_push}
-use Rattle.std.proofs.lemmas.Bool.{and_parts, cases_Bool, cond-true, cond-false, eqb-true}
+use Rattle.std.proofs.lemmas.Bool.{and_parts, cond-false, eqb-true}
 use Rattle.std.proofs.lemmas.Bool.Decides.{nat_tests}
-use Rattle.measures.specs.Channels.{channel, holds}
-use Rattle.measures.specs.Debouncing.{repeats, handed_behind, handed_down, Debounces, DebouncedFigures, front, rest, dropped, next, debounced, debounced_lawful}
-use Rattle.measures.specs.Meanings.{Meaning, Calls, opening_at, ◌▹◌, tallied, further_codes, Fits, Before, Ordered, Admissible, Closes, Whole, Lawful, MayStep, MayClose}
+use Rattle.measures.specs.Channels.{holds}
+use Rattle.measures.specs.Debouncing.{repeats, handed_behind, handed_down, Debounces, DebouncedFigures, front, rest, dropped, next, debounced}
+use Rattle.measures.specs.Meanings.{Meaning, Calls, opening_at, ◌▹◌, tallied, further_codes, Fits, Before, Ordered, Admissible, Whole, Lawful, MayStep, MayClose}
 use Rattle.measures.specs.Records.{among, activation, detector, of_channel, latest, on_by, occupied_after, changed}
 use Rattle.measures.specs.declared.own.OwnRecord.{OwnRecord}
 use Rattle.measures.proofs.Along.{Next, so_far, next_step, along}

@@ -1,12 +1,12 @@
 -- What the red-light tally keeps along admissible calls, and its figures at the close of a whole cycle.
-use Rattle.std.proofs.Common.{◌≡◌, ℕ, ◌+◌, ◌-◌, ◌^◌, ◌<◌, ◌≤◌, Bool, true, false, cond, ◌&&◌, ◌||◌, eqb, ltb, leb, List, [], ◌∷◌, ◌++◌, length, get_or, sym, refl, ap, ◌∙◌, subst, arith}
+use Rattle.std.proofs.Common.{◌≡◌, ℕ, ◌+◌, ◌-◌, ◌^◌, ◌<◌, ◌≤◌, true, false, cond, ◌&&◌, eqb, ltb, leb, List, [], ◌∷◌, ◌++◌, length, get_or, sym, refl, ◌∙◌, subst, arith}
 use Rattle.std.specs.List.{AllByRecursion as All}
 use Rattle.std.proofs.lemmas.Bool.{cond-true}
 use Rattle.std.proofs.lemmas.Bool.Decides.{nat_tests}
 use Rattle.measures.specs.Intervals.{shown}
-use Rattle.measures.specs.Meanings.{Calls, ◌▹◌, tallied, Admissible, Whole, MayStep, MayClose}
-use Rattle.measures.specs.Records.{among, activation, count, total}
-use Rattle.measures.specs.RedLight.{Tally, listed, unlisted, first, either_red, counted, to_show, next, figures, figures_at, red_light, red_light_lawful, red_at, clear_at, green_at, RedLightFigures}
+use Rattle.measures.specs.Meanings.{Calls, tallied, Admissible, Whole, MayStep, MayClose}
+use Rattle.measures.specs.Records.{activation, count, total}
+use Rattle.measures.specs.RedLight.{Tally, unlisted, either_red, counted, to_show, next, figures, red_light, red_light_lawful, red_at, clear_at, green_at, RedLightFigures}
 use Rattle.measures.specs.declared.interval.Interval.TheVariants.{Green, Yellow, RedClearance, Red}
 use Rattle.measures.specs.declared.own.OwnRecord.{OwnRecord}
 use Rattle.measures.proofs.Along.{marks, so_far}

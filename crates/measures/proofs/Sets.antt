@@ -1,12 +1,12 @@
 -- What a set of channels holds once it was changed.
-use Rattle.std.proofs.Common.{◌≡◌, ℕ, zero, suc, ◌+◌, ◌-◌, ◌*◌, ◌/◌, ◌%◌, ◌^◌, ◌<◌, ◌≤◌, Bool, true, false, cond, not, ◌&&◌, ◌||◌, eqb, leb, ◌⊎◌, sym, refl, ap, ◌∙◌, subst, inl, inr, ⊎_elim, zero-mul, arith}
+use Rattle.std.proofs.Common.{◌≡◌, ℕ, zero, suc, ◌+◌, ◌-◌, ◌*◌, ◌/◌, ◌%◌, ◌^◌, ◌<◌, ◌≤◌, Bool, true, false, cond, ◌&&◌, ◌||◌, eqb, sym, refl, ap, ◌∙◌, subst, ⊎_elim, zero-mul, arith}
 use lib.Bits.{bit_or, bit_xor}
 use Rattle.std.proofs.lemmas.Nat.{or_shr, or_mod, xor_shr, xor_mod, shl-shr, pow-add, pow_below, shr_below, shr_split, mod_below, pow_pos}
-use Rattle.std.proofs.lemmas.Bool.{cases_order, eq-eqb, ne_eqb, cases_eq, and_parts, leb-true, or_parts, or_from, or_right, or_left, cases_Bool, le-leb}
+use Rattle.std.proofs.lemmas.Bool.{cases_order, eq-eqb, ne_eqb, cases_eq, or_parts, or_from}
 use Rattle.std.proofs.lemmas.Bool.Decides.{nat_tests}
 use Rattle.controller_log.specs.Limits.{channels}
 use Rattle.measures.specs.Channels.{channel, holds, entered, removed, one_upto, some_channel}
-use Rattle.measures.specs.Records.{activation, detector, of_channel, changed}
+use Rattle.measures.specs.Records.{activation, of_channel, changed}
 use Rattle.measures.specs.declared.own.OwnRecord.{OwnRecord}
 
 -- the bits of a power of two

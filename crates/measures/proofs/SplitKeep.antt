@@ -7,13 +7,13 @@ use Rattle.measures.specs.Channels.{channel, holds, some_channel}
 use Rattle.measures.specs.Intervals.{shown}
 use Rattle.measures.specs.Limits.{longest_cycle, red_window}
 use Rattle.measures.specs.Meanings.{Calls, ◌▹◌, tallied, Before, Admissible, Whole, MayStep, MayClose}
-use Rattle.measures.specs.Records.{among, activation, of_channel, occupied_after, changed}
-use Rattle.measures.specs.SplitFailures.{occupied_at, before_code, causes, first_cause, Tally, listed, unlisted, first, green_until, red_until, cause_after, next, figures, figures_of, figures_at, split_failures, split_lawful, yellow_at, red_at, SplitFigures}
+use Rattle.measures.specs.Records.{among, activation, of_channel, occupied_after}
+use Rattle.measures.specs.SplitFailures.{occupied_at, before_code, causes, first_cause, Tally, unlisted, first, green_until, red_until, next, figures, split_failures, split_lawful, yellow_at, red_at, SplitFigures}
 use Rattle.measures.specs.declared.interval.Interval.TheVariants.{Green, Yellow, Red}
 use Rattle.measures.specs.declared.own.OwnRecord.{OwnRecord}
 use Rattle.measures.proofs.Along.{marks, Next, so_far, all_pop}
 use Rattle.measures.proofs.Handing.{occupied_push}
-use Rattle.measures.proofs.Marks.{Keeping, kept_along, Rises, marks_are, in_order}
+use Rattle.measures.proofs.Marks.{kept_along, Rises, marks_are, in_order}
 use Rattle.measures.proofs.Sets.{holds_changed, some_same}
 use Rattle.measures.proofs.Spans.{span, span_none, span_before, span_on, span_capped, tenths_le}
 

@@ -1,5 +1,5 @@
 -- A set of detector channels as a number: a bit for each channel, the lowest for channel 1.
-use Rattle.std.specs.Prelude.{ℕ, zero, suc, ◌-◌, ◌/◌, ◌%◌, ◌^◌, Bool, true, false, cond, ◌&&◌, ◌||◌, ◌==◌, bit_or, bit_xor}
+use Rattle.std.specs.Prelude.{ℕ, zero, suc, ◌-◌, ◌/◌, ◌%◌, ◌^◌, Bool, false, cond, ◌&&◌, ◌||◌, ◌==◌, bit_or, bit_xor}
 use Rattle.controller_log.specs.Detectors.{within}
 use Rattle.controller_log.specs.Limits.{channels}
 

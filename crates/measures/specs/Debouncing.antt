@@ -1,7 +1,7 @@
 -- The debouncing layer over a measure: which records it hands down, and its tally step by step.
-use Rattle.std.specs.Prelude.{◌≡◌, ℕ, Bool, true, false, cond, ◌&&◌, List, [], ◌∷◌, ◌++◌}
+use Rattle.std.specs.Prelude.{◌≡◌, ℕ, Bool, true, cond, ◌&&◌, List, [], ◌∷◌, ◌++◌}
 use Rattle.measures.specs.Channels.{channel, holds}
-use Rattle.measures.specs.Meanings.{Meaning, Calls, ◌▹◌, tallied, Admissible, Whole, Lawful, MayClose, Answers}
+use Rattle.measures.specs.Meanings.{Meaning, Calls, ◌▹◌, tallied, Admissible, Whole, Lawful}
 use Rattle.measures.specs.Records.{activation, occupied_after, changed}
 use Rattle.measures.specs.declared.debounced.Debounced.{Debounced}
 use Rattle.measures.specs.declared.measure.Measure.{Ghosts}

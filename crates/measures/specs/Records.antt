@@ -1,6 +1,5 @@
 -- Lists of own records with their adjusted moments: their kinds, what they say of a channel, and what is counted over them.
-use Rattle.std.specs.Prelude.{◌≡◌, ℕ, ◌+◌, ◌<◌, ◌≤◌, Bool, true, false, cond, ◌&&◌, ◌||◌, List, [], ◌∷◌, ◌++◌, map, Some, None, fold, sum_by, count_by, filter, Option, ◌==◌}
-use Rattle.std.specs.List.{AllByRecursion as All}
+use Rattle.std.specs.Prelude.{ℕ, Bool, false, cond, ◌&&◌, ◌||◌, List, [], ◌∷◌, map, Some, None, fold, sum_by, count_by, filter, Option, ◌==◌}
 use Rattle.controller_log.specs.Events.{code_of}
 use Rattle.controller_log.specs.declared.event.Event.TheVariants.{GreenBegins, GapOut, MaxOut, ForceOff, YellowBegins, YellowEnds, RedClearanceEnds, DetectorOff, DetectorOn}
 use Rattle.measures.specs.Channels.{holds, entered, removed}

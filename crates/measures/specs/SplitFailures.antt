@@ -1,9 +1,8 @@
 -- The split-failure measure: its figures in words, and its tally step by step.
-use Rattle.std.specs.Prelude.{◌≡◌, ℕ, zero, suc, ◌+◌, ◌-◌, ◌*◌, ◌≤◌, min, Bool, true, false, cond, ◌&&◌, leb, List, [], ◌∷◌, map, ℤ, pos, ◌≤ℤ◌, filter, ◌==◌, nat_le, slice_index, refl}
+use Rattle.std.specs.Prelude.{◌≡◌, ℕ, zero, suc, ◌+◌, ◌-◌, ◌*◌, ◌≤◌, min, Bool, true, false, cond, ◌&&◌, leb, List, [], ◌∷◌, map, pos, filter, ◌==◌, nat_le, slice_index, refl}
 use Rattle.std.proofs.Common.{arith}
 use Rattle.std.proofs.lemmas.Int.{ints}
 use Rattle.controller_log.specs.Events.{code_of}
-use Rattle.controller_log.specs.declared.detector.DetectorRow.{DetectorRow}
 use Rattle.controller_log.specs.declared.event.Event.TheVariants.{GreenBegins, GapOut, MaxOut, ForceOff, YellowBegins, YellowEnds}
 use Rattle.measures.specs.Channels.{holds, some_channel}
 use Rattle.measures.specs.Intervals.{shown}

@@ -1,5 +1,5 @@
-use Rattle.std.proofs.Common.{◌≡◌, ◌-◌, ◌≤◌, Bool, true, false, cond, ◌++◌, is_some, string_bytes, sym, ap, ◌∙◌, append_assoc, append-nil, arith}
-use Rattle.inspection.specs.Listing.{row_lines, rows_text, rows_count}
+use Rattle.std.proofs.Common.{◌-◌, ◌≤◌, Bool, true, false, cond, ◌++◌, is_some, string_bytes, sym, ap, ◌∙◌, append_assoc, append-nil, arith}
+use Rattle.inspection.specs.Listing.{row_lines, rows_text}
 use Rattle.inspection.proofs.Lines.{rows_none, rows_text_more, rows_count_more}
 use Rattle.inspection.proofs.write_table.Goals as goal
 

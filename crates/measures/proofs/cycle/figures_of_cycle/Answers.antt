@@ -1,6 +1,6 @@
-use Rattle.std.proofs.Common.{◌≡◌, ℕ, List, get_or, take, sym, refl, ap, ◌∙◌, subst}
+use Rattle.std.proofs.Common.{◌≡◌, get_or, take, sym, refl, ap, ◌∙◌, subst}
 use Rattle.std.proofs.lemmas.List.{take_all}
-use Rattle.measures.specs.Meanings.{Meaning, Admissible, Whole, MayStep, MayClose, Answers, calls, tallied}
+use Rattle.measures.specs.Meanings.{Admissible, MayStep, MayClose, Answers, calls, tallied}
 use Rattle.measures.specs.declared.own.OwnRecord.{OwnRecord}
 use Rattle.measures.proofs.Along.{stepped_on}
 use Rattle.measures.proofs.Marks.{of_answer}

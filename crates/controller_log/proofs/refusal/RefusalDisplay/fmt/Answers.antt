@@ -1,4 +1,4 @@
-use Rattle.std.proofs.Common.{◌≡◌, ℕ, List, [], ◌∷◌, ◌++◌, get_or, codes, decimal, sym, ap, ◌∙◌, subst}
+use Rattle.std.proofs.Common.{◌≡◌, [], ◌++◌, get_or, codes, decimal, ap, ◌∙◌, subst}
 use Rattle.std.specs.Fmt.{WritesOnOk}
 use Rattle.controller_log.specs.Refusals.{told, words, wording, at_row}
 use Rattle.controller_log.proofs.refusal.RefusalDisplay.fmt.Goals as goal

@@ -1,4 +1,3 @@
-use Rattle.measures.specs.Meanings.{MayClose, Answers}
 use Rattle.measures.proofs.Handing.{may_close_below, debounced_figures}
 use Rattle.measures.proofs.debounced.DebouncedMeasure.close.Goals as goal
 
