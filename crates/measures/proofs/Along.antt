@@ -1,6 +1,6 @@
 -- Admissible calls gone through step by step.
 use Rattle.std.proofs.Common.{◌≡◌, ℕ, suc, ◌+◌, ◌<◌, true, false, cond, List, [], ◌∷◌, ◌++◌, map, length, get_or, take, filter, sym, refl, ap, ◌∙◌, subst, append_assoc, arith}
-use Rattle.std.specs.List.{AllByRecursion as All}
+use Rattle.std.specs.List.{AllByRecursion}
 use Rattle.std.proofs.lemmas.List.Elements.{filter-append}
 use Rattle.std.proofs.lemmas.List.{append-nil, length-append, length_push, map-append, get_or_at, take_more}
 use Rattle.std.proofs.lemmas.List.Sums.{fold_push}
@@ -17,11 +17,11 @@ grows {X} P none more xs = go [] xs none
     go front [] p = subst P (sym (append-nil front)) p
     go front (x ∷ rest) p = subst P (append_assoc front (x ∷ []) rest) (go (front ++ x ∷ []) rest (more front x p))
 
-pub all_pop : {X : Type 0} (P : X → Type 0) (xs : List X) (x : X) → All P (xs ++ x ∷ []) → All P xs × P x
+pub all_pop : {X : Type 0} (P : X → Type 0) (xs : List X) (x : X) → AllByRecursion P (xs ++ x ∷ []) → AllByRecursion P xs × P x
 all_pop P [] x a = (tt, a.0)
 all_pop P (y ∷ xs) x a = let r = all_pop P xs x a.1 in ((a.0, r.0), r.1)
 
-ordered_pop : (xs : List OwnRecord) (s : OwnRecord) → Ordered (xs ++ s ∷ []) → Ordered xs × All (λ x. Before x s) xs
+ordered_pop : (xs : List OwnRecord) (s : OwnRecord) → Ordered (xs ++ s ∷ []) → Ordered xs × AllByRecursion (λ x. Before x s) xs
 ordered_pop [] s o = (tt, tt)
 ordered_pop (x ∷ xs) s o =
     let a = all_pop (Before x) xs s o.0 in
@@ -58,7 +58,7 @@ marks_same m xs s e = marks_append m xs s ∙ ap (λ b. marks m xs ++ map (λ s.
 pub record Next (m : Meaning) (c : Calls) (s : OwnRecord) : Type 0 where
   pub few : length c.between < most_records
   pub fits : Fits m c.from s
-  pub behind : All (λ x. Before x s) c.between
+  pub behind : AllByRecursion (λ x. Before x s) c.between
   pub turn : among m.further s.code ≡ true → (length (marks m c.between) < length m.further) × (get_or m.further (length (marks m c.between)) 0 ≡ s.code)
 
 front_in_turn : (ks : List ℕ) (k : ℕ) (fs : List ℕ) → Front (ks ++ k ∷ []) fs → (length ks < length fs) × (get_or fs (length ks) 0 ≡ k)

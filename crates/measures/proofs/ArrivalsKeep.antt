@@ -1,6 +1,6 @@
 -- What the arrivals tally keeps along admissible calls, and its figures at the close of a whole cycle.
 use Rattle.std.proofs.Common.{◌≡◌, ℕ, ◌+◌, ◌-◌, ◌*◌, ◌^◌, ◌<◌, ◌≤◌, true, false, cond, ◌&&◌, eqb, ltb, leb, List, [], ◌∷◌, ◌++◌, length, get_or, sym, refl, ◌∙◌, subst, arith}
-use Rattle.std.specs.List.{AllByRecursion as All}
+use Rattle.std.specs.List.{AllByRecursion}
 use Rattle.std.proofs.ByRecursion.{All-weaker}
 use Rattle.std.proofs.lemmas.Bool.{cond-true}
 use Rattle.std.proofs.lemmas.Bool.Decides.{nat_tests}
@@ -39,7 +39,7 @@ pub record Keeps (o : ℕ) (xs : List OwnRecord) (ms : List ℕ) (t : Tally) : T
   pub red_times : t.red_times ≡ weighed (red_time o) ms xs
 
 module _ (o : ℕ) (xs : List OwnRecord) (s : OwnRecord) (t : Tally) (ms : List ℕ) (h : Keeps o xs ms t) where
-  on_activation : activation s ≡ true → All (λ m. m ≤ s.adjusted) ms → Keeps o (xs ++ s ∷ []) ms (counted t s.adjusted)
+  on_activation : activation s ≡ true → AllByRecursion (λ m. m ≤ s.adjusted) ms → Keeps o (xs ++ s ∷ []) ms (counted t s.adjusted)
   on_activation e before =
       let more : (w : List ℕ → ℕ → ℕ) (n : ℕ) → n ≡ weighed w ms xs → n + w ms s.adjusted ≡ weighed w ms (xs ++ s ∷ []) = λ w. counts_on w ms xs s e before in
       record {
@@ -67,7 +67,7 @@ module _ (o : ℕ) (xs : List OwnRecord) (s : OwnRecord) (t : Tally) (ms : List 
         red_times = same (red_time o) t.red_times h.red_times;
       }
 
-  on_cut : activation s ≡ false → All (λ x. activation x ≡ true → x.adjusted < s.adjusted) xs → (u : Tally)
+  on_cut : activation s ≡ false → AllByRecursion (λ x. activation x ≡ true → x.adjusted < s.adjusted) xs → (u : Tally)
       → u.shows ≡ showing (ms ++ s.adjusted ∷ []) → u.green ≡ get_or (ms ++ s.adjusted ∷ []) 0 0 → u.yellow ≡ get_or (ms ++ s.adjusted ∷ []) 1 0
       → u.opened ≡ t.opened → u.on_red ≡ t.on_red → u.on_green ≡ t.on_green → u.on_yellow ≡ t.on_yellow → u.red_times ≡ t.red_times
       → Keeps o (xs ++ s ∷ []) (ms ++ s.adjusted ∷ []) u
@@ -96,7 +96,7 @@ keeping = record {
       subst (Keeps c.from (c.between ++ s ∷ []) ms) same (on_other c.from c.between s (unlisted t) ms h e);
 }
   where
-    on_further : (c : Calls) (s : OwnRecord) (t : Tally) → activation s ≡ false → All (λ x. activation x ≡ true → x.adjusted < s.adjusted) c.between
+    on_further : (c : Calls) (s : OwnRecord) (t : Tally) → activation s ≡ false → AllByRecursion (λ x. activation x ≡ true → x.adjusted < s.adjusted) c.between
         → (ms : List ℕ) → length ms < 2 → get_or (1 ∷ 8 ∷ []) (length ms) 0 ≡ s.code → Keeps c.from c.between ms t → Keeps c.from (c.between ++ s ∷ []) (ms ++ s.adjusted ∷ []) (next t s)
     on_further c s t e late [] short turn h =
         let is1 : to_green t s.adjusted ≡ next t s = rw (← turn) in
@@ -123,7 +123,7 @@ module _ (g y : ℕ) (l : g ≤ y) (xs : List OwnRecord) where
   times : (o : ℕ) → weighed (red_time o) (g ∷ y ∷ []) xs ≡ total (λ a. ltb a g) (λ a. a - o) xs
   times o = same_sums _ _ (λ s. grind (arith, nat_tests)) xs
 
-closes : (c : Calls) (e : ℕ) (t : Tally) → Rises c.from (green_at c ∷ yellow_at c ∷ []) e → All (λ s. c.from ≤ s.adjusted) c.between
+closes : (c : Calls) (e : ℕ) (t : Tally) → Rises c.from (green_at c ∷ yellow_at c ∷ []) e → AllByRecursion (λ s. c.from ≤ s.adjusted) c.between
     → Keeps c.from c.between (green_at c ∷ yellow_at c ∷ []) t → ArrivalFigures c e (figures t e)
 closes c e t r a h =
     let g = green_at c in

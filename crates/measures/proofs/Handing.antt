@@ -1,6 +1,6 @@
 -- What the debouncing layer hands down of admissible calls, and that these are admissible for the measure below.
 use Rattle.std.proofs.Common.{◌≡◌, ℕ, suc, ◌≤◌, Bool, true, false, cond, ◌&&◌, eqb, List, [], ◌∷◌, ◌++◌, length, Some, None, filter, sym, refl, ap, ◌∙◌, subst, append_assoc, arith}
-use Rattle.std.specs.List.{AllByRecursion as All}
+use Rattle.std.specs.List.{AllByRecursion}
 use Rattle.std.proofs.lemmas.List.Elements.{filter-append}
 use Rattle.std.proofs.lemmas.List.{append-nil}
 use Rattle.std.proofs.lemmas.List.Sums.{fold_push}
@@ -36,11 +36,11 @@ handed_push q before (x ∷ xs) s =
     elim (repeats q before x) as (λ b. cond b (handed_behind q (before ++ x ∷ []) (xs ++ s ∷ [])) (x ∷ handed_behind q (before ++ x ∷ []) (xs ++ s ∷ [])) ≡ cond b (handed_behind q (before ++ x ∷ []) xs) (x ∷ handed_behind q (before ++ x ∷ []) xs) ++ cond (repeats q (before ++ x ∷ xs) s) [] (s ∷ []))
     [ true ↦ k | false ↦ ap (λ l. x ∷ l) k ]
 
-handed_all : (P : OwnRecord → Type 0) (q : ℕ) (before xs : List OwnRecord) → All P xs → All P (handed_behind q before xs)
+handed_all : (P : OwnRecord → Type 0) (q : ℕ) (before xs : List OwnRecord) → AllByRecursion P xs → AllByRecursion P (handed_behind q before xs)
 handed_all P q before [] a = tt
 handed_all P q before (x ∷ xs) a =
     let h = handed_all P q (before ++ x ∷ []) xs a.1 in
-    elim (repeats q before x) as (λ b. All P (cond b (handed_behind q (before ++ x ∷ []) xs) (x ∷ handed_behind q (before ++ x ∷ []) xs))) [ true ↦ h | false ↦ (a.0, h) ]
+    elim (repeats q before x) as (λ b. AllByRecursion P (cond b (handed_behind q (before ++ x ∷ []) xs) (x ∷ handed_behind q (before ++ x ∷ []) xs))) [ true ↦ h | false ↦ (a.0, h) ]
 
 handed_ordered : (q : ℕ) (before xs : List OwnRecord) → Ordered xs → Ordered (handed_behind q before xs)
 handed_ordered q before [] o = tt
@@ -75,7 +75,7 @@ module _ (m : Meaning) (l : Lawful m) (c : Calls) where
     turns = (a.turns.0, ap (λ ks. ks ++ a.turns.0) (handed_codes m l c.occupied [] c.between) ∙ a.turns.1);
   }
     where
-      fits_below : (xs : List OwnRecord) → All (Fits (debounced m) c.from) xs → All (Fits m c.from) xs
+      fits_below : (xs : List OwnRecord) → AllByRecursion (Fits (debounced m) c.from) xs → AllByRecursion (Fits m c.from) xs
       fits_below [] f = tt
       fits_below (x ∷ xs) f = (record { after = f.0.after; near = f.0.near; kind = f.0.kind; place = f.0.place; inner = f.0.inner }, fits_below xs f.1)
 

@@ -1,6 +1,6 @@
 -- The moments of the further codes: what they are as a cycle goes on, and what is kept with them.
 use Rattle.std.proofs.Common.{◌≡◌, ℕ, zero, suc, ◌<◌, ◌≤◌, Bool, true, false, cond, not, ◌||◌, eqb, ◌⊎◌, List, [], ◌∷◌, ◌++◌, map, length, get_or, filter, sym, refl, ap, ◌∙◌, subst, inl, inr, ⊎_elim, arith}
-use Rattle.std.specs.List.{AllByRecursion as All}
+use Rattle.std.specs.List.{AllByRecursion}
 use Rattle.std.proofs.ByRecursion.{All-map, all_kept_by, All-weaker}
 use Rattle.std.proofs.lemmas.List.{get_or_at, get_or_past, get_or_append_left, get_or-map, ext_get_or, length_push, length-map}
 use Rattle.std.proofs.lemmas.List.Sums.{fold_push}
@@ -12,7 +12,7 @@ use Rattle.measures.specs.declared.own.OwnRecord.{OwnRecord}
 use Rattle.measures.proofs.Along.{marks, marks_length, marks_more, marks_same, Next, along}
 
 -- the moments so far come before a step's
-pub marks_before : (m : Meaning) (c : Calls) (s : OwnRecord) → Next m c s → All (λ a. a ≤ s.adjusted) (marks m c.between)
+pub marks_before : (m : Meaning) (c : Calls) (s : OwnRecord) → Next m c s → AllByRecursion (λ a. a ≤ s.adjusted) (marks m c.between)
 marks_before m c s n =
     All-map (λ a. a ≤ s.adjusted) (λ x. x.adjusted) (filter (λ x. among m.further x.code) c.between)
     (all_kept_by (λ x. among m.further x.code) (λ x. x.adjusted ≤ s.adjusted) c.between
@@ -47,8 +47,8 @@ module _ (m : Meaning) (l : Lawful m) (s : OwnRecord) where
 -- what is kept by an activation, by the further code whose turn it is, and by every other record
 pub record Keeping (m : Meaning) (P : Calls → List ℕ → List ℕ → Type 0) : Type 0 where
   pub start : (o q : ℕ) → P (opening_at o q) [] (m.opened o q)
-  pub on : (c : Calls) (s : OwnRecord) (ms t : List ℕ) → Next m c s → activation s ≡ true → All (λ a. a ≤ s.adjusted) ms → P c ms t → P (c ▹ s) ms (m.stepped t s)
-  pub further : (c : Calls) (s : OwnRecord) (ms t : List ℕ) → Next m c s → activation s ≡ false → All (λ x. activation x ≡ true → x.adjusted < s.adjusted) c.between
+  pub on : (c : Calls) (s : OwnRecord) (ms t : List ℕ) → Next m c s → activation s ≡ true → AllByRecursion (λ a. a ≤ s.adjusted) ms → P c ms t → P (c ▹ s) ms (m.stepped t s)
+  pub further : (c : Calls) (s : OwnRecord) (ms t : List ℕ) → Next m c s → activation s ≡ false → AllByRecursion (λ x. activation x ≡ true → x.adjusted < s.adjusted) c.between
       → length ms < length m.further → get_or m.further (length ms) 0 ≡ s.code → P c ms t → P (c ▹ s) (ms ++ s.adjusted ∷ []) (m.stepped t s)
   pub other : (c : Calls) (s : OwnRecord) (ms t : List ℕ) → Next m c s → activation s ≡ false → among m.further s.code ≡ false → P c ms t → P (c ▹ s) ms (m.stepped t s)
 
@@ -138,7 +138,7 @@ abbrev pub Rises : ℕ → List ℕ → ℕ → Type 0
 Rises low [] high = low ≤ high
 Rises low (n ∷ ns) high = (low ≤ n) × Rises n ns high
 
-marks_rise : (m : Meaning) (xs : List OwnRecord) (low high : ℕ) → low ≤ high → All (λ s. low ≤ s.adjusted) xs → Ordered xs → All (λ s. s.adjusted ≤ high) xs → Rises low (marks m xs) high
+marks_rise : (m : Meaning) (xs : List OwnRecord) (low high : ℕ) → low ≤ high → AllByRecursion (λ s. low ≤ s.adjusted) xs → Ordered xs → AllByRecursion (λ s. s.adjusted ≤ high) xs → Rises low (marks m xs) high
 marks_rise m [] low high l a o b = l
 marks_rise m (x ∷ xs) low high l a o b =
     let here = marks_rise m xs x.adjusted high b.0 (All-weaker (Before x) (λ s. x.adjusted ≤ s.adjusted) (λ s p. p.rises) xs o.0) o.1 b.1 in
@@ -147,7 +147,7 @@ marks_rise m (x ∷ xs) low high l a o b =
     [ true ↦ (a.0, here) | false ↦ over ]
 
 -- every record of a cycle comes from its opening on
-pub from_opening : (m : Meaning) (c : Calls) → Admissible m c → All (λ s. c.from ≤ s.adjusted) c.between
+pub from_opening : (m : Meaning) (c : Calls) → Admissible m c → AllByRecursion (λ s. c.from ≤ s.adjusted) c.between
 from_opening m c a = All-weaker (Fits m c.from) (λ s. c.from ≤ s.adjusted) (λ s f. f.after) c.between a.each
 
 -- at the close each further code has come, at its moment, from the opening to the close

@@ -1,6 +1,6 @@
 -- A tally counts an activation by what came before it; the rules count it by its adjusted moment. In working order that is the same.
 use Rattle.std.proofs.Common.{◌≡◌, ℕ, ◌+◌, ◌-◌, ◌*◌, ◌^◌, ◌<◌, ◌≤◌, Bool, true, false, cond, ◌&&◌, ltb, leb, List, [], ◌∷◌, ◌++◌, length, sum_by, filter, sym, refl, ap, ◌∙◌, add-mul, arith}
-use Rattle.std.specs.List.{AllByRecursion as All}
+use Rattle.std.specs.List.{AllByRecursion}
 use Rattle.std.proofs.lemmas.List.Elements.{filter-append}
 use Rattle.std.proofs.ByRecursion.{All-weaker, sum_by_le}
 use Rattle.std.proofs.lemmas.List.{append-nil}
@@ -25,12 +25,12 @@ weighed w ms xs = sum_by (weight w ms) xs
 pub same_sums : (f h : OwnRecord → ℕ) → ((s : OwnRecord) → f s ≡ h s) → (xs : List OwnRecord) → sum_by f xs ≡ sum_by h xs
 same_sums f h p xs = ap (λ k. sum_by k xs) (λ i s. p s i)
 
-sums_where : (f h : OwnRecord → ℕ) (xs : List OwnRecord) → All (λ s. f s ≡ h s) xs → sum_by f xs ≡ sum_by h xs
+sums_where : (f h : OwnRecord → ℕ) (xs : List OwnRecord) → AllByRecursion (λ s. f s ≡ h s) xs → sum_by f xs ≡ sum_by h xs
 sums_where f h [] a = refl
 sums_where f h (s ∷ xs) a =
     sum_by-cons f s xs ∙ ap (λ n. n + sum_by f xs) a.0 ∙ ap (λ n. h s + n) (sums_where f h xs a.1) ∙ sym (sum_by-cons h s xs)
 
-pub all_upto : (a : ℕ) (ms : List ℕ) → All (λ m. m ≤ a) ms → upto a ms ≡ ms
+pub all_upto : (a : ℕ) (ms : List ℕ) → AllByRecursion (λ m. m ≤ a) ms → upto a ms ≡ ms
 all_upto a [] h = refl
 all_upto a (m ∷ ms) h = rw (le-leb m a h.0) (ap (λ l. m ∷ l) (all_upto a ms h.1))
 
@@ -39,7 +39,7 @@ upto_more a n ms l =
     filter-append (λ m. leb m a) ms (n ∷ []) ∙ ap (λ b. upto a ms ++ cond b (n ∷ []) []) (lt-leb n a l) ∙ append-nil (upto a ms)
 
 -- a count that follows its weight goes on to do so: an activation adds its weight,
-pub counts_on : (w : List ℕ → ℕ → ℕ) (ms : List ℕ) (xs : List OwnRecord) (s : OwnRecord) → activation s ≡ true → All (λ m. m ≤ s.adjusted) ms
+pub counts_on : (w : List ℕ → ℕ → ℕ) (ms : List ℕ) (xs : List OwnRecord) (s : OwnRecord) → activation s ≡ true → AllByRecursion (λ m. m ≤ s.adjusted) ms
     → (n : ℕ) → n ≡ weighed w ms xs → n + w ms s.adjusted ≡ weighed w ms (xs ++ s ∷ [])
 counts_on w ms xs s e h n k =
     ap (λ n. n + w ms s.adjusted) k
@@ -53,7 +53,7 @@ counts_past w ms xs s e n k =
     k ∙ sym (sum_by_push (weight w ms) xs s ∙ ap (λ n. weighed w ms xs + n) (cond-false (activation s) (w (upto s.adjusted ms) s.adjusted) 0 e) ∙ (omega arith))
 
 -- and neither does a further code, which comes after every activation so far
-weighed_mark : (w : List ℕ → ℕ → ℕ) (ms : List ℕ) (n : ℕ) (xs : List OwnRecord) → All (λ x. activation x ≡ true → x.adjusted < n) xs
+weighed_mark : (w : List ℕ → ℕ → ℕ) (ms : List ℕ) (n : ℕ) (xs : List OwnRecord) → AllByRecursion (λ x. activation x ≡ true → x.adjusted < n) xs
     → weighed w (ms ++ n ∷ []) xs ≡ weighed w ms xs
 weighed_mark w ms n xs h = sums_where (weight w (ms ++ n ∷ [])) (weight w ms) xs (each xs h)
   where
@@ -61,23 +61,23 @@ weighed_mark w ms n xs h = sums_where (weight w (ms ++ n ∷ [])) (weight w ms) 
     here x true l = ap (λ k. w k x.adjusted) (upto_more x.adjusted n ms (l refl))
     here x false l = refl
 
-    each : (xs : List OwnRecord) → All (λ x. activation x ≡ true → x.adjusted < n) xs → All (λ s. weight w (ms ++ n ∷ []) s ≡ weight w ms s) xs
+    each : (xs : List OwnRecord) → AllByRecursion (λ x. activation x ≡ true → x.adjusted < n) xs → AllByRecursion (λ s. weight w (ms ++ n ∷ []) s ≡ weight w ms s) xs
     each [] h = tt
     each (x ∷ xs) h = (here x (activation x) h.0, each xs h.1)
 
-pub counts_cut : (w : List ℕ → ℕ → ℕ) (ms : List ℕ) (xs : List OwnRecord) (s : OwnRecord) → activation s ≡ false → All (λ x. activation x ≡ true → x.adjusted < s.adjusted) xs
+pub counts_cut : (w : List ℕ → ℕ → ℕ) (ms : List ℕ) (xs : List OwnRecord) (s : OwnRecord) → activation s ≡ false → AllByRecursion (λ x. activation x ≡ true → x.adjusted < s.adjusted) xs
     → (n : ℕ) → n ≡ weighed w ms xs → n ≡ weighed w (ms ++ s.adjusted ∷ []) (xs ++ s ∷ [])
 counts_cut w ms xs s e h n k = counts_past w (ms ++ s.adjusted ∷ []) xs s e n (k ∙ sym (weighed_mark w ms s.adjusted xs h))
 
 -- a bound on each weight bounds the sum
-pub weighed_le : (w : List ℕ → ℕ → ℕ) (ms : List ℕ) (xs : List OwnRecord) (b : ℕ) → All (λ x. (l : List ℕ) → w l x.adjusted ≤ b) xs → weighed w ms xs ≤ length xs * b
+pub weighed_le : (w : List ℕ → ℕ → ℕ) (ms : List ℕ) (xs : List OwnRecord) (b : ℕ) → AllByRecursion (λ x. (l : List ℕ) → w l x.adjusted ≤ b) xs → weighed w ms xs ≤ length xs * b
 weighed_le w ms xs b h = sum_by_le (weight w ms) b xs (each xs h)
   where
     here : (x : OwnRecord) (t : Bool) → ((l : List ℕ) → w l x.adjusted ≤ b) → cond t (w (upto x.adjusted ms) x.adjusted) 0 ≤ b
     here x true l = l (upto x.adjusted ms)
     here x false l = omega arith
 
-    each : (xs : List OwnRecord) → All (λ x. (l : List ℕ) → w l x.adjusted ≤ b) xs → All (λ s. weight w ms s ≤ b) xs
+    each : (xs : List OwnRecord) → AllByRecursion (λ x. (l : List ℕ) → w l x.adjusted ≤ b) xs → AllByRecursion (λ s. weight w ms s ≤ b) xs
     each [] h = tt
     each (x ∷ xs) h = (here x (activation x) h.0, each xs h.1)
 
@@ -89,7 +89,7 @@ weighed_fits m c a w h ms =
     omega arith
 
 -- over activations from o on and before g, the times up to g and the times from o make up the whole time, once for each
-pub distances : (o g : ℕ) (xs : List OwnRecord) → All (λ s. o ≤ s.adjusted) xs
+pub distances : (o g : ℕ) (xs : List OwnRecord) → AllByRecursion (λ s. o ≤ s.adjusted) xs
     → total (λ a. ltb a g) (λ a. g - a) xs + total (λ a. ltb a g) (λ a. a - o) xs ≡ count (λ a. ltb a g) xs * (g - o)
 distances o g [] h = omega arith
 distances o g (s ∷ xs) h =

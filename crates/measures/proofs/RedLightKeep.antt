@@ -1,6 +1,6 @@
 -- What the red-light tally keeps along admissible calls, and its figures at the close of a whole cycle.
 use Rattle.std.proofs.Common.{◌≡◌, ℕ, ◌+◌, ◌-◌, ◌^◌, ◌<◌, ◌≤◌, true, false, cond, ◌&&◌, eqb, ltb, leb, List, [], ◌∷◌, ◌++◌, length, get_or, sym, refl, ◌∙◌, subst, arith}
-use Rattle.std.specs.List.{AllByRecursion as All}
+use Rattle.std.specs.List.{AllByRecursion}
 use Rattle.std.proofs.lemmas.Bool.{cond-true}
 use Rattle.std.proofs.lemmas.Bool.Decides.{nat_tests}
 use Rattle.measures.specs.Intervals.{shown}
@@ -47,7 +47,7 @@ module _ (S : ℕ) where
     pub red_times : t.red_times ≡ weighed red_time ms xs
 
   module _ (o : ℕ) (xs : List OwnRecord) (s : OwnRecord) (t : Tally) (ms : List ℕ) (h : Keeps o xs ms t) where
-    on_activation : activation s ≡ true → All (λ m. m ≤ s.adjusted) ms → Keeps o (xs ++ s ∷ []) ms (counted S t s.adjusted)
+    on_activation : activation s ≡ true → AllByRecursion (λ m. m ≤ s.adjusted) ms → Keeps o (xs ++ s ∷ []) ms (counted S t s.adjusted)
     on_activation e before =
         let more : (w : List ℕ → ℕ → ℕ) (n : ℕ) → n ≡ weighed w ms xs → n + w ms s.adjusted ≡ weighed w ms (xs ++ s ∷ []) = λ w. counts_on w ms xs s e before in
         record {
@@ -79,7 +79,7 @@ module _ (S : ℕ) where
           red_times = same red_time t.red_times h.red_times;
         }
 
-    on_cut : activation s ≡ false → All (λ x. activation x ≡ true → x.adjusted < s.adjusted) xs → (n r : ℕ)
+    on_cut : activation s ≡ false → AllByRecursion (λ x. activation x ≡ true → x.adjusted < s.adjusted) xs → (n r : ℕ)
         → n ≡ showing (ms ++ s.adjusted ∷ []) → r ≡ get_or (ms ++ s.adjusted ∷ []) 0 0 → Keeps o (xs ++ s ∷ []) (ms ++ s.adjusted ∷ []) (to_show n r t)
     on_cut e late n r shows red =
         let same : (w : List ℕ → ℕ → ℕ) (n : ℕ) → n ≡ weighed w ms xs → n ≡ weighed w (ms ++ s.adjusted ∷ []) (xs ++ s ∷ []) = λ w. counts_cut w ms xs s e late in
@@ -109,7 +109,7 @@ module _ (S : ℕ) where
         subst (Keeps c.from (c.between ++ s ∷ []) ms) same (on_other c.from c.between s (unlisted t) ms h e);
   }
     where
-      on_further : (c : Calls) (s : OwnRecord) (t : Tally) → activation s ≡ false → All (λ x. activation x ≡ true → x.adjusted < s.adjusted) c.between
+      on_further : (c : Calls) (s : OwnRecord) (t : Tally) → activation s ≡ false → AllByRecursion (λ x. activation x ≡ true → x.adjusted < s.adjusted) c.between
           → (ms : List ℕ) → length ms < 3 → get_or (9 ∷ 11 ∷ 1 ∷ []) (length ms) 0 ≡ s.code → Keeps c.from c.between ms t → Keeps c.from (c.between ++ s ∷ []) (ms ++ s.adjusted ∷ []) (next S t s)
       on_further c s t e late [] short turn h =
           let is9 : to_show (shown RedClearance) s.adjusted t ≡ next S t s = rw (← turn) in

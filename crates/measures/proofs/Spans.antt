@@ -1,6 +1,6 @@
 -- Tenths counted one by one, and how those with an occupied channel grow from record to record.
 use Rattle.std.proofs.Common.{◌≡◌, ℕ, zero, suc, ◌+◌, ◌-◌, ◌<◌, ◌≤◌, min, Bool, true, false, cond, leb, List, [], ◌∷◌, ◌++◌, refl, ap, ◌∙◌, ⊎_elim, add-zero, add-suc, arith}
-use Rattle.std.specs.List.{AllByRecursion as All}
+use Rattle.std.specs.List.{AllByRecursion}
 use Rattle.std.proofs.lemmas.List.Elements.{filter-append}
 use Rattle.std.proofs.lemmas.List.{append-nil}
 use Rattle.std.proofs.lemmas.Bool.{le-leb, lt-leb, cases_lt}
@@ -57,20 +57,20 @@ span_before q xs s a b l =
     ap (λ ys. some_channel (occupied_after q ys))
     (filter-append (λ s. leb s.adjusted i) xs (s ∷ []) ∙ ap (λ v. upto i xs ++ cond v (s ∷ []) []) (lt-leb s.adjusted i (omega arith)) ∙ append-nil (upto i xs)))
 
-all_upto : (t : ℕ) (xs : List OwnRecord) → All (λ s. s.adjusted ≤ t) xs → upto t xs ≡ xs
+all_upto : (t : ℕ) (xs : List OwnRecord) → AllByRecursion (λ s. s.adjusted ≤ t) xs → upto t xs ≡ xs
 all_upto t [] h = refl
 all_upto t (s ∷ xs) h = rw (le-leb s.adjusted t h.0) (ap (λ l. s ∷ l) (all_upto t xs h.1))
 
 -- from the latest record on, channels stay as they are
-settled : (q : ℕ) (xs : List OwnRecord) (last t : ℕ) → All (λ s. s.adjusted ≤ last) xs → last ≤ t → occupied_at q xs t ≡ some_channel (occupied_after q xs)
+settled : (q : ℕ) (xs : List OwnRecord) (last t : ℕ) → AllByRecursion (λ s. s.adjusted ≤ last) xs → last ≤ t → occupied_at q xs t ≡ some_channel (occupied_after q xs)
 unfolding occupied_at
 settled q xs last t h l = ap (λ ys. some_channel (occupied_after q ys)) (all_upto t xs (raise xs h))
   where
-    raise : (xs : List OwnRecord) → All (λ s. s.adjusted ≤ last) xs → All (λ s. s.adjusted ≤ t) xs
+    raise : (xs : List OwnRecord) → AllByRecursion (λ s. s.adjusted ≤ last) xs → AllByRecursion (λ s. s.adjusted ≤ t) xs
     raise [] h = tt
     raise (x ∷ xs) h = (let k = h.0 in omega arith, raise xs h.1)
 
-module _ (q : ℕ) (xs : List OwnRecord) (last : ℕ) (h : All (λ s. s.adjusted ≤ last) xs) where
+module _ (q : ℕ) (xs : List OwnRecord) (last : ℕ) (h : AllByRecursion (λ s. s.adjusted ≤ last) xs) where
   pub span_on : (a b : ℕ) → a ≤ last → last ≤ b → span (occupied_at q xs) a b ≡ span (occupied_at q xs) a last + cond (some_channel (occupied_after q xs)) (b - last) 0
   span_on a b l k =
       span_split (occupied_at q xs) a last b l k

@@ -1,6 +1,6 @@
 -- What the split-failure tally keeps along admissible calls, and its figures at the close of a whole cycle.
 use Rattle.std.proofs.Common.{◌≡◌, ℕ, ◌+◌, ◌-◌, ◌<◌, ◌≤◌, min, Bool, true, false, cond, not, ◌&&◌, ◌||◌, eqb, List, [], ◌∷◌, ◌++◌, length, get_or, sym, refl, ap, ◌∙◌, subst, arith}
-use Rattle.std.specs.List.{AllByRecursion as All}
+use Rattle.std.specs.List.{AllByRecursion}
 use Rattle.std.proofs.ByRecursion.{All-weaker, All-push}
 use Rattle.std.proofs.lemmas.Bool.Decides.{nat_tests}
 use Rattle.measures.specs.Channels.{channel, holds, some_channel}
@@ -54,10 +54,10 @@ pub record Keeps (c : Calls) (ms : List ℕ) (t : Tally) : Type 0 where
   pub yellow : t.yellow ≡ get_or ms 0 0
   pub red : t.red ≡ get_or ms 1 0
   pub from_low : c.from ≤ t.last
-  pub last_least : (b : ℕ) → c.from ≤ b → All (λ x. x.adjusted ≤ b) c.between → t.last ≤ b
+  pub last_least : (b : ℕ) → c.from ≤ b → AllByRecursion (λ x. x.adjusted ≤ b) c.between → t.last ≤ b
   pub last_near : t.last ≤ c.from + longest_cycle
-  pub until : All (λ x. x.adjusted ≤ t.last) c.between
-  pub marks_until : All (λ m. m ≤ t.last) ms
+  pub until : AllByRecursion (λ x. x.adjusted ≤ t.last) c.between
+  pub marks_until : AllByRecursion (λ m. m ≤ t.last) ms
   pub occupied : (d : ℕ) → channel d ≡ true → holds t.occupied d ≡ occupied_after c.occupied c.between d
   pub green_occupied : t.green_occupied ≡ green_part (occupied_at c.occupied c.between) c.from ms t.last
   pub red_occupied : t.red_occupied ≡ red_part (occupied_at c.occupied c.between) ms t.last
@@ -114,7 +114,7 @@ module _ (c : Calls) (s : OwnRecord) (n : Next split_failures c s) (t : Tally) w
 
   -- what each record keeps, with its own moments of the further codes
   on_record : (ms ns : List ℕ) → Keeps c ms t → (next t s).shows ≡ showing ns → (next t s).yellow ≡ get_or ns 0 0 → (next t s).red ≡ get_or ns 1 0
-      → All (λ m. m ≤ s.adjusted) ns
+      → AllByRecursion (λ m. m ≤ s.adjusted) ns
       → green_part (occupied_at c.occupied (c.between ++ s ∷ [])) c.from ms s.adjusted ≡ green_part (occupied_at c.occupied (c.between ++ s ∷ [])) c.from ns s.adjusted
       → red_part (occupied_at c.occupied (c.between ++ s ∷ [])) ms s.adjusted ≡ red_part (occupied_at c.occupied (c.between ++ s ∷ [])) ns s.adjusted
       → (has 8 c.between || eqb s.code 8) ≡ not (eqb (showing ns) (shown Green))
@@ -136,7 +136,7 @@ module _ (c : Calls) (s : OwnRecord) (n : Next split_failures c s) (t : Tally) w
     cause = (let p = cause_push c.between s in let k = h.came in rw (p, h.shows, h.cause, k) (grind (arith, nat_tests)));
   }
 
-  higher : (ms : List ℕ) → Keeps c ms t → All (λ m. m ≤ s.adjusted) ms
+  higher : (ms : List ℕ) → Keeps c ms t → AllByRecursion (λ m. m ≤ s.adjusted) ms
   higher ms h = let r = rises ms h in All-weaker (λ m. m ≤ t.last) (λ m. m ≤ s.adjusted) (λ m l. omega arith) ms h.marks_until
 
   on_same : (ms : List ℕ) → Keeps c ms t → eqb s.code 8 ≡ false → eqb s.code 9 ≡ false → Keeps (c ▹ s) ms (next t s)
@@ -160,7 +160,7 @@ keeps = kept_along split_failures split_lawful (λ c ms t. Keeps c ms (unlisted 
   other = λ c s ms t n e no' h. on_same c s n (unlisted t) ms h (grind (arith, nat_tests)) (grind (arith, nat_tests));
 })
 
-closes : (c : Calls) (e : ℕ) (t : Tally) → Rises c.from (yellow_at c ∷ red_at c ∷ []) e → c.from ≤ e → All (λ x. x.adjusted ≤ e) c.between
+closes : (c : Calls) (e : ℕ) (t : Tally) → Rises c.from (yellow_at c ∷ red_at c ∷ []) e → c.from ≤ e → AllByRecursion (λ x. x.adjusted ≤ e) c.between
     → Keeps c (yellow_at c ∷ red_at c ∷ []) t → SplitFigures c e (figures t e)
 closes c e t b l u h =
     let r = red_at c in

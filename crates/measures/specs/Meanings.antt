@@ -1,6 +1,6 @@
 -- What a measure means, and the lists of calls that are made of it.
 use Rattle.std.specs.Prelude.{◌≡◌, ℕ, ◌+◌, ◌^◌, ◌<◌, ◌≤◌, Bool, true, false, not, ◌&&◌, ◌||◌, List, [], ◌∷◌, ◌++◌, map, length, ℤ, pos, neg_ℤ, ◌≤ℤ◌, fold, filter}
-use Rattle.std.specs.List.{AllByRecursion as All}
+use Rattle.std.specs.List.{AllByRecursion}
 use Rattle.controller_log.specs.Detectors.{within}
 use Rattle.controller_log.specs.Events.{code_of}
 use Rattle.controller_log.specs.Limits.{channels, max_moment, max_travel, max_latency}
@@ -66,7 +66,7 @@ pub record Before (x y : OwnRecord) : Type 0 where
 -- each record comes before each that is behind it
 abbrev pub Ordered : List OwnRecord → Type 0
 Ordered [] = Unit {0}
-Ordered (x ∷ xs) = All (Before x) xs × Ordered xs
+Ordered (x ∷ xs) = AllByRecursion (Before x) xs × Ordered xs
 
 -- a list that goes on to another
 abbrev pub Front : List ℕ → List ℕ → Type 0
@@ -78,7 +78,7 @@ pub record Admissible (m : Meaning) (c : Calls) : Type 0 where
   pub set : c.occupied < 2 ^ channels
   pub unread : m.presence ≡ false → c.occupied ≡ 0
   pub few : length c.between ≤ most_records
-  pub each : All (Fits m c.from) c.between
+  pub each : AllByRecursion (Fits m c.from) c.between
   pub ordered : Ordered c.between
   pub turns : Front (further_codes m c.between) m.further
 
@@ -87,7 +87,7 @@ pub record Closes (m : Meaning) (c : Calls) (e : ℕ) : Type 0 where
   pub all : further_codes m c.between ≡ m.further
   pub later : c.from < e
   pub near : e ≤ c.from + longest_cycle
-  pub behind : All (λ s. (s.adjusted ≤ e) × (detector s ≡ true → s.adjusted < e)) c.between
+  pub behind : AllByRecursion (λ s. (s.adjusted ≤ e) × (detector s ≡ true → s.adjusted < e)) c.between
 
 -- a whole clean cycle, from its opening to its close at e
 pub record Whole (m : Meaning) (c : Calls) (e : ℕ) : Type 0 where
@@ -104,7 +104,7 @@ MayClose m t e = (c : Calls) × (t ≡ tallied m c) × Whole m c e
 -- what a close at e answers: the figures that follow from the tally and e, each below 2^63
 pub record Answers (m : Meaning) (t : List ℕ) (e : ℕ) (r : List ℕ) : Type 0 where
   pub value : r ≡ m.closed t e
-  pub bound : All (λ f. f < 2 ^ 63) r
+  pub bound : AllByRecursion (λ f. f < 2 ^ 63) r
 
 -- each of some numbers passes a test; they are all different
 abbrev pub each_is : (ℕ → Bool) → List ℕ → Bool
