@@ -1,5 +1,5 @@
 -- The arrivals measure: its figures in words, and its tally step by step.
-use Rattle.std.specs.Prelude.{◌≡◌, ℕ, ◌+◌, ◌-◌, ◌*◌, ◌≤◌, true, false, cond, ◌&&◌, ltb, leb, List, [], ◌∷◌, pos, ◌-ℤ◌, ◌==◌, nat_le, nat_lt, slice_index, refl}
+use Rattle.std.specs.Prelude.{◌≡◌, ℕ, ◌+◌, ◌-◌, ◌*◌, ◌≤◌, true, false, cond, ◌&&◌, nat_lt, nat_le, List, [], ◌∷◌, pos, ◌-ℤ◌, ◌==◌, slice_index, refl}
 use Rattle.std.proofs.Common.{arith}
 use Rattle.std.proofs.lemmas.Int.{ints}
 use Rattle.controller_log.specs.Events.{code_of}
@@ -16,10 +16,10 @@ use Rattle.measures.specs.declared.own.OwnRecord.{OwnRecord}
 abbrev pub figures_at : ℕ → ℕ → Calls → ℕ → List ℕ
 figures_at g y c e =
     (g - c.from) ∷ (y - g) ∷ (e - y)
-    ∷ count (λ a. ltb a g) c.between
+    ∷ count (λ a. nat_lt a g) c.between
     ∷ count (λ a. nat_le g a && nat_lt a y) c.between
-    ∷ count (λ a. leb y a) c.between
-    ∷ total (λ a. ltb a g) (λ a. g - a) c.between
+    ∷ count (λ a. nat_le y a) c.between
+    ∷ total (λ a. nat_lt a g) (λ a. g - a) c.between
     ∷ 0 ∷ []
 
 -- the moments at which green and yellow begin

@@ -1,5 +1,5 @@
 -- The red-light measure: its figures in words, and its tally step by step.
-use Rattle.std.specs.Prelude.{◌≡◌, ℕ, ◌+◌, ◌-◌, ◌≤◌, Bool, true, false, cond, ◌&&◌, ◌||◌, ltb, leb, List, [], ◌∷◌, pos, neg_ℤ, ◌==◌, nat_le, nat_lt, slice_index, refl}
+use Rattle.std.specs.Prelude.{◌≡◌, ℕ, ◌+◌, ◌-◌, ◌≤◌, Bool, true, false, cond, ◌&&◌, ◌||◌, nat_lt, nat_le, List, [], ◌∷◌, pos, neg_ℤ, ◌==◌, slice_index, refl}
 use Rattle.std.proofs.Common.{arith}
 use Rattle.std.proofs.lemmas.Int.{ints}
 use Rattle.controller_log.specs.Events.{code_of}
@@ -16,12 +16,12 @@ use Rattle.measures.specs.declared.red_light.RedLight.{RedLight}
 -- over those on yellow the sum of their times after the opening, and over those on either red the sum of their times after r
 abbrev pub figures_at : ℕ → ℕ → ℕ → ℕ → Calls → List ℕ
 figures_at S r k g c =
-    count (λ a. ltb a r) c.between
+    count (λ a. nat_lt a r) c.between
     ∷ count (λ a. nat_le r a && nat_lt a k) c.between
     ∷ count (λ a. nat_le k a && nat_lt a g) c.between
     ∷ count (λ a. nat_le r a && (nat_lt a g && nat_le (r + S) a)) c.between
-    ∷ count (λ a. leb g a) c.between
-    ∷ total (λ a. ltb a r) (λ a. a - c.from) c.between
+    ∷ count (λ a. nat_le g a) c.between
+    ∷ total (λ a. nat_lt a r) (λ a. a - c.from) c.between
     ∷ total (λ a. nat_le r a && nat_lt a g) (λ a. a - r) c.between
     ∷ 0 ∷ []
 

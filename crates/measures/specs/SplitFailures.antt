@@ -1,5 +1,5 @@
 -- The split-failure measure: its figures in words, and its tally step by step.
-use Rattle.std.specs.Prelude.{◌≡◌, ℕ, zero, suc, ◌+◌, ◌-◌, ◌*◌, ◌≤◌, min, Bool, true, false, cond, ◌&&◌, leb, List, [], ◌∷◌, map, pos, filter, ◌==◌, nat_le, slice_index, refl}
+use Rattle.std.specs.Prelude.{◌≡◌, ℕ, zero, suc, ◌+◌, ◌-◌, ◌*◌, ◌≤◌, min, Bool, true, false, cond, ◌&&◌, nat_le, List, [], ◌∷◌, map, pos, filter, ◌==◌, slice_index, refl}
 use Rattle.std.proofs.Common.{arith}
 use Rattle.std.proofs.lemmas.Int.{ints}
 use Rattle.controller_log.specs.Events.{code_of}
@@ -15,7 +15,7 @@ use Rattle.measures.specs.declared.split_failures.SplitFailures.{SplitFailures}
 
 -- the records up to a tenth
 abbrev pub upto : ℕ → List OwnRecord → List OwnRecord
-upto t xs = filter (λ s. leb s.adjusted t) xs
+upto t xs = filter (λ s. nat_le s.adjusted t) xs
 
 -- at a tenth at least one channel is occupied, by its latest record up to there or by the set at the opening
 unfoldable pub occupied_at : ℕ → List OwnRecord → ℕ → Bool

@@ -1,6 +1,6 @@
 // Split failures: greens whose detectors stay occupied, and are occupied again right after red begins.
 // A cycle runs from one begin of green to the next: green, yellow, red.
-ghost use Rattle.std.specs.Prelude.{◌≡◌, ◌^◌, ◌≤◌, cond};
+ghost use Rattle.std.specs.Prelude.{◌≡◌, ◌^◌, ◌≤◌};
 ghost use Rattle.measures.specs.Limits.{longest_cycle};
 ghost use Rattle.measures.specs.Meanings.{Calls, Whole, tallied, MayClose, Answers};
 ghost use Rattle.measures.specs.SplitFailures.{split_failures, split_lawful, SplitFigures, kept, tally, listed, first, failed, green_until, red_until, cause_after};
