@@ -1,3 +1,4 @@
+pub mod Answered
 pub mod Entering
 pub mod Leads
 pub mod Pieces

@@ -46,20 +46,20 @@ sound_push (r ∷ rows) row c d e new s = (
 )
 
 -- a look-up after a row was put
-module _ (t : DetectorTable) (size : length t.places ≡ channels) (c : ℕ) (d : DetectorRow) (in_range : within 1 channels c ≡ true) where
+module _ (t : DetectorTable) (size : length t ≡ channels) (c : ℕ) (d : DetectorRow) (in_range : within 1 channels c ≡ true) where
   lookup_put : lookup (with_row t c d) c ≡ Some d
   lookup_put =
       let l = within_bounds 1 channels c in_range in
-      cond-true (within 1 channels c) (get_or (set t.places (c - 1) (Some d)) (c - 1) None) None in_range ∙ get_or-set_same t.places (c - 1) (Some d) None (omega arith)
+      cond-true (within 1 channels c) (get_or (set t (c - 1) (Some d)) (c - 1) None) None in_range ∙ get_or-set_same t (c - 1) (Some d) None (omega arith)
 
   lookup_other : (channel : ℕ) → (channel ≡ c → ⊥) → lookup (with_row t c d) channel ≡ lookup t channel
   lookup_other channel other = go (within 1 channels channel) refl
     where
-      go : (b : Bool) → within 1 channels channel ≡ b → cond b (get_or (set t.places (c - 1) (Some d)) (channel - 1) None) None ≡ cond b (get_or t.places (channel - 1) None) None
+      go : (b : Bool) → within 1 channels channel ≡ b → cond b (get_or (set t (c - 1) (Some d)) (channel - 1) None) None ≡ cond b (get_or t (channel - 1) None) None
       go true e =
           let a = within_bounds 1 channels channel e in
           let l = within_bounds 1 channels c in_range in
-          get_or-set_other t.places (c - 1) (channel - 1) (Some d) None (λ q. other (omega arith))
+          get_or-set_other t (c - 1) (channel - 1) (Some d) None (λ q. other (omega arith))
       go false e = refl
 
 not_some : {X : Type 0} (o : Option X) (x : X) → is_some o ≡ false → o ≡ Some x → ⊥
@@ -71,7 +71,7 @@ some_value (Some x) e = (x, refl)
 
 -- the rows so far are held, and the table has all its places
 pub record Sofar (rows : List (List ℕ)) (t : DetectorTable) : Type 0 where
-  pub size : length t.places ≡ channels
+  pub size : length t ≡ channels
   pub holds : Holds rows t
 
 sofar_more : (rows : List (List ℕ)) (t : DetectorTable) (row : List ℕ) (c : ℕ) (d : DetectorRow) → Sofar rows t → read_row row ≡ Some (c, d) → is_some (lookup t c) ≡ false → Sofar (rows ++ row ∷ []) (with_row t c d)
@@ -80,7 +80,7 @@ sofar_more rows t row c d s e free =
     let range = (row_facts row (c, d) e).channel in
     let new : (f : DetectorRow) → Lists rows c f → ⊥ = λ f l. not_some (lookup t c) f free (h.held c f l) in
     record {
-      size = length-set t.places (c - 1) (Some d) ∙ s.size;
+      size = length-set t (c - 1) (Some d) ∙ s.size;
       holds = record {
         sound = sound_push rows row c d e new h.sound;
         listed = λ channel f l.
@@ -138,10 +138,10 @@ none_yet = record {
     empty : (channel : ℕ) (d : DetectorRow) → lookup no_rows channel ≡ Some d → ⊥
     empty channel d e = go (within 1 channels channel) refl e
       where
-        go : (b : Bool) → within 1 channels channel ≡ b → cond b (get_or no_rows.places (channel - 1) None) None ≡ Some d → ⊥
+        go : (b : Bool) → within 1 channels channel ≡ b → cond b (get_or no_rows (channel - 1) None) None ≡ Some d → ⊥
         go true w h =
             let l = within_bounds 1 channels channel w in
-            not_some (get_or no_rows.places (channel - 1) None) d (ap is_some (get_or-replicate channels (channel - 1) None None (omega arith))) h
+            not_some (get_or no_rows (channel - 1) None) d (ap is_some (get_or-replicate channels (channel - 1) None None (omega arith))) h
         go false w h = not_some None d refl h
 
 pub rules_kept : (bs : List ℕ) → TableRules bs (read_table bs)

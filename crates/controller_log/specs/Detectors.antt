@@ -1,9 +1,11 @@
 -- A row of a detector table: what one detector channel is for, and its 8 bytes.
-use Rattle.std.specs.Prelude.{ℕ, ◌+◌, ◌/◌, ◌%◌, Bool, true, false, cond, ◌&&◌, ◌||◌, List, [], ◌∷◌, length, Some, None, codes, Option, ◌==◌, nat_le, slice_index}
+use Rattle.std.specs.Prelude.{◌≡◌, ℕ, ◌<◌, ◌≤◌, Ok, Err, Result, ◌+◌, ◌/◌, ◌%◌, Bool, true, false, cond, ◌&&◌, ◌||◌, List, [], ◌∷◌, length, Some, None, codes, Option, ◌==◌, nat_le, slice_index}
 use Rattle.controller_log.specs.Bytes.{two_bytes, in_two}
 use Rattle.controller_log.specs.Limits.{record_size, channels, phases, all_uses, max_travel, max_latency}
 use Rattle.controller_log.specs.declared.detector.DetectorRow.{DetectorRow}
+use Rattle.controller_log.specs.declared.detector.UnknownUses.{UnknownUses}
 use Rattle.controller_log.specs.declared.detector.Uses.{Uses}
+use Rattle.controller_log.specs.declared.detector.Wanted.{Wanted}
 
 -- the uses that a byte adds up: 1 arrivals, 2 presence, 4 red-light
 abbrev pub uses_of : ℕ → Uses
@@ -12,6 +14,11 @@ uses_of b = record { arrivals = (b % 2 == 1); presence = (b / 2 % 2 == 1); red_l
 -- the byte that adds them up
 abbrev pub uses_byte : Uses → ℕ
 uses_byte u = cond u.arrivals 1 0 + cond u.presence 2 0 + cond u.red_light 4 0
+
+-- a byte is turned into the uses that it adds up, or is handed back where it adds up more than there are
+abbrev pub AddsUp : ℕ → Result Uses UnknownUses → Type 0
+AddsUp b (Ok u) = (b ≤ all_uses) × (u ≡ uses_of b)
+AddsUp b (Err e) = (all_uses < b) × (e.0 ≡ b)
 
 -- some use is in both
 abbrev pub share : Uses → Uses → Bool
@@ -55,6 +62,6 @@ read_row bs =
 abbrev pub row_bytes : ℕ → DetectorRow → List ℕ
 row_bytes channel d = channel ∷ d.phase ∷ uses_byte d.uses ∷ 0 ∷ in_two d.travel (in_two d.latency [])
 
--- a row names a phase and one of some uses
-abbrev pub names : ℕ → Uses → DetectorRow → Bool
-names phase uses d = d.phase == phase && share d.uses uses
+-- a row names the phase that is wanted, and one of the uses
+abbrev pub names : Wanted → DetectorRow → Bool
+names wanted d = d.phase == wanted.phase && share d.uses wanted.uses

@@ -1,6 +1,7 @@
 -- The events that the engine knows, by their codes in the log.
-use Rattle.std.specs.Prelude.{ℕ, cond, List, [], ◌∷◌, Some, None, codes, Option, ◌==◌}
+use Rattle.std.specs.Prelude.{◌≡◌, ℕ, cond, List, [], ◌∷◌, Some, None, codes, Option, Ok, Err, Result, ◌==◌}
 use Rattle.controller_log.specs.declared.event.Event.{Event}
+use Rattle.controller_log.specs.declared.event.UnknownCode.{UnknownCode}
 use Rattle.controller_log.specs.declared.event.Event.TheVariants.{GreenBegins, GapOut, MaxOut, ForceOff, YellowBegins, YellowEnds, RedClearanceEnds, DetectorOff, DetectorOn}
 
 -- the code of an event
@@ -27,6 +28,11 @@ with_code c (e ∷ es) = cond (c == code_of e) (Some e) (with_code c es)
 -- the event of a code, if it is one of these
 abbrev pub event : ℕ → Option Event
 event c = with_code c events
+
+-- a code is turned into its event, or is handed back where it has none
+abbrev pub Decodes : ℕ → Result Event UnknownCode → Type 0
+Decodes c (Ok e) = event c ≡ Some e
+Decodes c (Err u) = (event c ≡ None) × (u.0 ≡ c)
 
 -- an event's name
 abbrev pub event_name : Event → List ℕ

@@ -1,6 +1,6 @@
 // A row of a detector table: what one detector channel is for, and its 8 bytes in a file.
 ghost use Rattle.std.specs.Prelude.{◌≡◌, true, IfSome, Some};
-ghost use Rattle.controller_log.specs.Detectors.{uses_of, uses_byte, share, uses_named, in_range, read_row, row_bytes, names};
+ghost use Rattle.controller_log.specs.Detectors.{AddsUp, uses_byte, share, uses_named, in_range, read_row, row_bytes, names};
 
 use crate::limits::{ALL_USES, CHANNELS, MAX_LATENCY, MAX_TRAVEL, PHASES, RECORD_SIZE};
 use std::fmt;
@@ -14,22 +14,29 @@ pub struct Uses {
 }
 
 impl Uses {
-    // The uses that a byte adds up: 1 arrivals, 2 presence, 4 red-light.
-    fn from_byte(byte: u8) -> Uses
-        ensures { result ≡ uses_of byte }
-    {
-        Uses {
-            arrivals: byte % 2 == 1,
-            presence: byte / 2 % 2 == 1,
-            red_light: byte / 4 % 2 == 1,
-        }
-    }
+    pub const NONE: Uses = Uses {
+        arrivals: false,
+        presence: false,
+        red_light: false,
+    };
 
-    fn to_byte(&self) -> u8
-        ensures { result ≡ uses_byte self.now }
-    {
-        u8::from(self.arrivals) + 2 * u8::from(self.presence) + 4 * u8::from(self.red_light)
-    }
+    pub const ARRIVALS: Uses = Uses {
+        arrivals: true,
+        presence: false,
+        red_light: false,
+    };
+
+    pub const PRESENCE: Uses = Uses {
+        arrivals: false,
+        presence: true,
+        red_light: false,
+    };
+
+    pub const RED_LIGHT: Uses = Uses {
+        arrivals: false,
+        presence: false,
+        red_light: true,
+    };
 
     // Whether some use is in both.
     fn share(&self, other: Uses) -> bool
@@ -39,11 +46,43 @@ impl Uses {
             || self.presence && other.presence
             || self.red_light && other.red_light
     }
+}
 
-    fn by_name(&self) -> &'static str
-        ensures { result.now ≡ uses_named self.now }
-    {
-        match (self.arrivals, self.presence, self.red_light) {
+// A byte that adds up no uses.
+#[derive(Clone, Copy, PartialEq, Eq, Debug)]
+pub struct UnknownUses(pub u8);
+
+// The uses that a byte adds up: 1 arrivals, 2 presence, 4 red-light.
+impl TryFrom<u8> for Uses {
+    type Error = UnknownUses;
+
+    ghost try_from_gives = { AddsUp };
+
+    fn try_from(byte: u8) -> Result<Uses, UnknownUses> {
+        if byte > ALL_USES {
+            return Err(UnknownUses(byte));
+        }
+        Ok(Uses {
+            arrivals: byte % 2 == 1,
+            presence: byte / 2 % 2 == 1,
+            red_light: byte / 4 % 2 == 1,
+        })
+    }
+}
+
+impl From<Uses> for u8 {
+    ghost from_gives = { λ uses byte. byte ≡ uses_byte uses };
+
+    fn from(uses: Uses) -> u8 {
+        u8::from(uses.arrivals) + 2 * u8::from(uses.presence) + 4 * u8::from(uses.red_light)
+    }
+}
+
+impl fmt::Display for Uses {
+    ghost output = { λ u. Some (uses_named u) };
+
+    fn fmt<W: fmt::Write>(&self, f: &mut fmt::Formatter<W>) -> fmt::Result {
+        f.write_str(match (self.arrivals, self.presence, self.red_light) {
             (false, false, false) => "no use",
             (true, false, false) => "arrivals",
             (false, true, false) => "presence",
@@ -52,16 +91,15 @@ impl Uses {
             (true, false, true) => "arrivals and red-light",
             (false, true, true) => "presence and red-light",
             (true, true, true) => "arrivals, presence and red-light",
-        }
+        })
     }
 }
 
-impl fmt::Display for Uses {
-    ghost output = { λ u. Some (uses_named u) };
-
-    fn fmt<W: fmt::Write>(&self, f: &mut fmt::Formatter<W>) -> fmt::Result {
-        f.write_str(self.by_name())
-    }
+// What is asked of a detector: the phase that it serves, and one of some uses.
+#[derive(Clone, Copy, PartialEq, Eq, Debug)]
+pub struct Wanted {
+    pub phase: u8,
+    pub uses: Uses,
 }
 
 // The row of one channel; the table's place says which channel. Travel and latency are in tenths of a second.
@@ -79,36 +117,24 @@ impl DetectorRow {
         ensures value { result ≡ read_row bytes.now }
         ensures written_back { IfSome result (λ w. row_bytes w.0 w.1 ≡ bytes.now) }
     {
-        DetectorRow::decode(bytes)
-    }
-
-    fn decode(bytes: &[u8]) -> Option<(u8, DetectorRow)>
-        ensures { result ≡ read_row bytes.now }
-    {
-        let [channel, phase, uses, zero, t0, t1, l0, l1] = bytes else {
+        let [channel, phase, uses, 0, t0, t1, l0, l1] = bytes else {
             return None;
         };
         let row = DetectorRow {
             phase: *phase,
-            uses: Uses::from_byte(*uses),
+            uses: Uses::try_from(*uses).ok()?,
             travel: u16::from_le_bytes([*t0, *t1]),
             latency: u16::from_le_bytes([*l0, *l1]),
         };
-        if *uses <= ALL_USES && *zero == 0 && row.in_range(*channel) {
-            Some((*channel, row))
-        } else {
-            None
-        }
+        row.in_range(*channel).then_some((*channel, row))
     }
 
     // Whether this row, at a channel, keeps the ranges of a table.
     pub fn in_range(&self, channel: u8) -> bool
         ensures { result ≡ in_range channel self.now }
     {
-        1 <= channel
-            && channel <= CHANNELS
-            && 1 <= self.phase
-            && self.phase <= PHASES
+        (1..=CHANNELS).contains(&channel)
+            && (1..=PHASES).contains(&self.phase)
             && self.travel <= MAX_TRAVEL
             && self.latency <= MAX_LATENCY
     }
@@ -120,13 +146,13 @@ impl DetectorRow {
     {
         let [t0, t1] = self.travel.to_le_bytes();
         let [l0, l1] = self.latency.to_le_bytes();
-        [channel, self.phase, self.uses.to_byte(), 0, t0, t1, l0, l1]
+        [channel, self.phase, u8::from(self.uses), 0, t0, t1, l0, l1]
     }
 
-    // Whether the row names a phase and one of some uses.
-    pub fn names(&self, phase: u8, uses: Uses) -> bool
-        ensures { result ≡ names phase uses self.now }
+    // Whether the row names the phase and one of the uses.
+    pub fn names(&self, wanted: Wanted) -> bool
+        ensures { result ≡ names wanted self.now }
     {
-        self.phase == phase && self.uses.share(uses)
+        self.phase == wanted.phase && self.uses.share(wanted.uses)
     }
 }

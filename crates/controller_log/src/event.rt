@@ -1,39 +1,52 @@
 // The events that the engine knows by their codes in the log.
 ghost use Rattle.std.specs.Prelude.{◌≡◌, Some};
-ghost use Rattle.controller_log.specs.Events.{event, event_name};
+ghost use Rattle.controller_log.specs.Events.{code_of, Decodes, event_name};
 
 use std::fmt;
 
 #[derive(Clone, Copy, PartialEq, Eq, Debug)]
 pub enum Event {
-    GreenBegins,
-    GapOut,
-    MaxOut,
-    ForceOff,
-    YellowBegins,
-    YellowEnds,
-    RedClearanceEnds,
-    DetectorOff,
-    DetectorOn,
+    GreenBegins = 1,
+    GapOut = 4,
+    MaxOut = 5,
+    ForceOff = 6,
+    YellowBegins = 8,
+    YellowEnds = 9,
+    RedClearanceEnds = 11,
+    DetectorOff = 81,
+    DetectorOn = 82,
 }
 
-impl Event {
-    // The event of a code, if the engine knows it.
-    pub fn from_code(code: u8) -> Option<Event>
-        ensures { result ≡ event code }
-    {
+// A code by which the engine knows no event.
+#[derive(Clone, Copy, PartialEq, Eq, Debug)]
+pub struct UnknownCode(pub u8);
+
+impl TryFrom<u8> for Event {
+    type Error = UnknownCode;
+
+    ghost try_from_gives = { Decodes };
+
+    fn try_from(code: u8) -> Result<Event, UnknownCode> {
         match code {
-            1 => Some(Event::GreenBegins),
-            4 => Some(Event::GapOut),
-            5 => Some(Event::MaxOut),
-            6 => Some(Event::ForceOff),
-            8 => Some(Event::YellowBegins),
-            9 => Some(Event::YellowEnds),
-            11 => Some(Event::RedClearanceEnds),
-            81 => Some(Event::DetectorOff),
-            82 => Some(Event::DetectorOn),
-            _ => None,
+            1 => Ok(Event::GreenBegins),
+            4 => Ok(Event::GapOut),
+            5 => Ok(Event::MaxOut),
+            6 => Ok(Event::ForceOff),
+            8 => Ok(Event::YellowBegins),
+            9 => Ok(Event::YellowEnds),
+            11 => Ok(Event::RedClearanceEnds),
+            81 => Ok(Event::DetectorOff),
+            82 => Ok(Event::DetectorOn),
+            _ => Err(UnknownCode(code)),
         }
+    }
+}
+
+impl From<Event> for u8 {
+    ghost from_gives = { λ e code. code ≡ code_of e };
+
+    fn from(event: Event) -> u8 {
+        event as u8
     }
 }
 

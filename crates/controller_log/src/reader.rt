@@ -1,13 +1,55 @@
-// A log read record by record, each with its number. The struct stands alone here, since its specs name it.
-ghost use Rattle.std.specs.Prelude.{◌≤◌};
+// A log read record by record: the bytes of each with its number from 1, a short last piece too.
+ghost use Rattle.std.specs.Prelude.{◌≡◌, ◌+◌, ◌^◌, ◌<◌, length};
+ghost use Rattle.std.specs.Iterator.{at_most};
+ghost use Rattle.std.specs.Slice.Iter.{chunks_rest, chunks_size};
+ghost use Rattle.controller_log.specs.Limits.{record_size};
+ghost use Rattle.controller_log.specs.Pieces.{pieces, Cuts};
+ghost use Rattle.controller_log.specs.Readers.{Reading, Yields};
 
-mod records;
+use crate::limits::RECORD_SIZE;
+use std::marker::Model;
+use std::slice::Chunks;
 
-// A cursor over a log: what stands before `at` was yielded, as `number` records.
+// A cursor over a log's pieces, and how many of them it has yielded.
 #[derive(Drop)]
 pub struct LogReader<'a> {
-    log: &'a [u8],
-    at: usize,
+    chunks: Chunks<'a, u8>,
     number: usize,
-    ghost counted: { number ≤ at },
+}
+
+impl<'a> Model for LogReader<'a> {
+    ghost Value = { Reading };
+
+    ghost view = { λ r. record { to_come = pieces (chunks_rest r.chunks); number = r.number } };
+
+    ghost invariant = { λ r. (chunks_size r.chunks ≡ record_size) × (r.number + length (chunks_rest r.chunks) < 2 ^ 64) };
+}
+
+impl<'a> LogReader<'a> {
+    // A reader at the start of a log.
+    pub fn new(log: &'a [u8]) -> LogReader<'a>
+        ensures to_come { result.to_come ≡ pieces log.now }
+        ensures whole { Cuts log.now result.to_come }
+        ensures number { result.number ≡ 0 }
+        ensures countable { length result.to_come < 2 ^ 64 }
+    {
+        LogReader {
+            chunks: log.chunks(RECORD_SIZE),
+            number: 0,
+        }
+    }
+}
+
+impl<'a> Iterator for LogReader<'a> {
+    type Item = (usize, &'a [u8]);
+
+    ghost next_gives = { Yields };
+
+    ghost remaining = { λ s. at_most (length s.to_come) };
+
+    fn next(&mut self) -> Option<(usize, &'a [u8])> {
+        let piece = self.chunks.next()?;
+        self.number += 1;
+        Some((self.number, piece))
+    }
 }

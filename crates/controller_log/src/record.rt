@@ -21,12 +21,6 @@ impl Record {
         ensures moment { IfOk result (λ d. d.moment ≤ max_moment) }
         ensures written_back { IfOk result (λ d. record_bytes d ≡ bytes.now) }
     {
-        Record::decode(bytes)
-    }
-
-    fn decode(bytes: &[u8]) -> Result<Record, Refusal>
-        ensures { answer result ≡ read_record bytes.now }
-    {
         let [m0, m1, m2, m3, code, parameter, z0, z1, rest @ ..] = bytes else {
             return Err(Refusal::RecordLength);
         };

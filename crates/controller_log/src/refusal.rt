@@ -60,6 +60,7 @@ impl Refusal {
         }
     }
 
+    #[tactic(auto, unfolding(crate::specs::Refusals::words))]
     fn words(&self) -> &'static str
         ensures { result.now ≡ slice_index_or words (told self.now).number [] }
     {
@@ -86,6 +87,7 @@ impl Refusal {
 impl fmt::Display for Refusal {
     ghost output = { λ e. Some (wording (told e)) };
 
+    #[tactic(auto, unfolding(crate::specs::Refusals::wording))]
     fn fmt<W: fmt::Write>(&self, f: &mut fmt::Formatter<W>) -> fmt::Result {
         let words = self.words();
         match self.row() {

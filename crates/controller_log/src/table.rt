@@ -1,20 +1,35 @@
 // A detector table: a place for each of 64 channels, read from a file of 8-byte rows.
-ghost use Rattle.std.specs.Prelude.{◌≡◌, ◌+◌, ◌%◌, ◌^◌, ◌<◌, true, map, length};
+ghost use Rattle.std.specs.Prelude.{◌≡◌, ◌+◌, ◌%◌, ◌^◌, ◌<◌, true, length};
 ghost use Rattle.controller_log.specs.Detectors.{within, read_row};
 ghost use Rattle.controller_log.specs.Limits.{channels, record_size};
-ghost use Rattle.controller_log.specs.LeadRows.{if_named, rows_naming, first_row, lead_row, Lowest};
+ghost use Rattle.controller_log.specs.LeadRows.{rows_naming, lead_row, Lowest};
 ghost use Rattle.controller_log.specs.Pieces.{pieces};
 ghost use Rattle.controller_log.specs.Refusals.{answer, answer_with};
 ghost use Rattle.controller_log.specs.TableRules.{TableRules};
 ghost use Rattle.controller_log.specs.Tables.{lookup, no_rows, with_row, enter, entered, read_table};
 
-use crate::detector::{DetectorRow, Uses};
-use crate::limits::{CHANNELS, MAX_TABLE_SIZE, RECORD_SIZE, TABLE_PLACES};
+use crate::detector::{DetectorRow, Wanted};
+use crate::limits::{MAX_TABLE_SIZE, RECORD_SIZE, TABLE_PLACES};
 use crate::refusal::Refusal;
+use std::marker::Model;
 
 #[derive(Clone, Copy)]
 pub struct DetectorTable {
     places: [Option<DetectorRow>; TABLE_PLACES],
+}
+
+impl Model for DetectorTable {
+    ghost use Rattle.std.specs.Prelude.{◌≡◌, List, length, Option};
+    ghost use Rattle.controller_log.specs.Limits.{channels};
+    ghost use Rattle.controller_log.specs.declared.detector.DetectorRow.{DetectorRow};
+
+    ghost Value = { List (Option DetectorRow) };
+
+    ghost view = { λ t. t.places };
+
+    ghost invariant = { λ t. length t.places ≡ channels };
+
+    ghost inverse = { λ places. record { places = places } };
 }
 
 impl DetectorTable {
@@ -31,10 +46,8 @@ impl DetectorTable {
     pub fn lookup(&self, channel: u8) -> Option<DetectorRow>
         ensures { result ≡ lookup self.now channel }
     {
-        if channel == 0 || channel > CHANNELS {
-            return None;
-        }
-        self.places[usize::from(channel) - 1]
+        let place = usize::from(channel).checked_sub(1)?;
+        self.places.get(place).copied().flatten()
     }
 
     fn put(&mut self, channel: u8, row: DetectorRow)
@@ -44,21 +57,25 @@ impl DetectorTable {
         self.places[usize::from(channel) - 1] = Some(row);
     }
 
-    // The rows that name a phase and one of some uses, each at its channel's place.
-    pub fn rows_naming(&self, phase: u8, uses: Uses) -> DetectorTable
-        ensures { result ≡ rows_naming phase uses self.now }
+    // The rows that are wanted, each at its channel's place.
+    pub fn rows_naming(&self, wanted: Wanted) -> DetectorTable
+        ensures { result ≡ rows_naming wanted self.now }
     {
-        let mut named = *self;
-        keep_named(&mut named.places, phase, uses);
-        named
+        DetectorTable {
+            places: self
+                .places
+                .map(|place| place.filter(|row| row.names(wanted))),
+        }
     }
 
-    // The row of the lowest channel among those that name a phase and one of some uses.
-    pub fn lead_row(&self, phase: u8, uses: Uses) -> Option<DetectorRow>
-        ensures value { result ≡ lead_row phase uses self.now }
-        ensures lowest { Lowest phase uses self.now.places result }
+    // The row of the lowest channel among those that are wanted.
+    pub fn lead_row(&self, wanted: Wanted) -> Option<DetectorRow>
+        ensures value { result ≡ lead_row wanted self.now }
+        ensures lowest { Lowest wanted self.now result }
     {
-        first_named(&self.places, phase, uses)
+        self.places
+            .iter()
+            .find_map(|place| place.filter(|row| row.names(wanted)))
     }
 
     // The table in a file of 8-byte rows, or the first refusal that meets it.
@@ -89,43 +106,11 @@ impl DetectorTable {
         requires { i + 1 < 2 ^ 64 }
         ensures { answer_with result self.new ≡ enter (i + 1) self.old (read_row row.now) }
     {
-        let Some((channel, row)) = DetectorRow::read(row) else {
-            return Err(Refusal::RowOutOfRange(i + 1));
-        };
+        let (channel, row) = DetectorRow::read(row).ok_or(Refusal::RowOutOfRange(i + 1))?;
         if self.lookup(channel).is_some() {
             return Err(Refusal::ChannelRepeated(i + 1));
         }
         self.put(channel, row);
         Ok(())
     }
-}
-
-// A place of a table, if its row names a phase and one of some uses.
-fn if_named(place: Option<DetectorRow>, phase: u8, uses: Uses) -> Option<DetectorRow>
-    ensures { result ≡ if_named phase uses place }
-{
-    match place {
-        Some(row) if row.names(phase, uses) => Some(row),
-        _ => None,
-    }
-}
-
-fn keep_named(places: &mut [Option<DetectorRow>], phase: u8, uses: Uses)
-    ensures { places.new ≡ map (if_named phase uses) places.old }
-{
-    for place in places.iter_mut() {
-        *place = if_named(*place, phase, uses);
-    }
-}
-
-fn first_named(places: &[Option<DetectorRow>], phase: u8, uses: Uses) -> Option<DetectorRow>
-    ensures { result ≡ first_row (map (if_named phase uses) places.now) }
-{
-    for place in places {
-        let named = if_named(*place, phase, uses);
-        if named.is_some() {
-            return named;
-        }
-    }
-    None
 }

@@ -2,26 +2,24 @@
 use controller_log::reader::LogReader;
 use std::test::Fail;
 
-// How many records a log of some bytes begins, and the number and length of its last.
-fn read_to_end(log: &[u8]) -> (usize, usize, usize) {
-    let mut count = 0usize;
-    let mut last = (0, 0);
-    for (number, bytes) in LogReader::new(log) {
-        count = count.saturating_add(1);
-        last = (number, bytes.len());
-    }
-    (count, last.0, last.1)
+// How many records a log of some bytes begins, and the number and length of its last, if any.
+fn read_to_end(log: &[u8]) -> (usize, Option<(usize, usize)>) {
+    let last = LogReader::new(log).last();
+    (
+        LogReader::new(log).count(),
+        last.map(|(number, bytes)| (number, bytes.len())),
+    )
 }
 
 #[test]
 fn a_short_last_piece_is_yielded_too(rt: HostRuntime) {
     let log = [0u8; 25];
-    assert_eq!(rt; read_to_end(&log[0..0]), (0, 0, 0));
-    assert_eq!(rt; read_to_end(&log[0..7]), (1, 1, 7));
-    assert_eq!(rt; read_to_end(&log[0..8]), (1, 1, 8));
-    assert_eq!(rt; read_to_end(&log[0..9]), (2, 2, 1));
-    assert_eq!(rt; read_to_end(&log[0..24]), (3, 3, 8));
-    assert_eq!(rt; read_to_end(&log), (4, 4, 1));
+    assert_eq!(rt; read_to_end(&log[0..0]), (0, None));
+    assert_eq!(rt; read_to_end(&log[0..7]), (1, Some((1, 7))));
+    assert_eq!(rt; read_to_end(&log[0..8]), (1, Some((1, 8))));
+    assert_eq!(rt; read_to_end(&log[0..9]), (2, Some((2, 1))));
+    assert_eq!(rt; read_to_end(&log[0..24]), (3, Some((3, 8))));
+    assert_eq!(rt; read_to_end(&log), (4, Some((4, 1))));
 }
 
 #[test]
