@@ -1,8 +1,8 @@
 -- The places of a table gone through one after another.
-use Rattle.std.proofs.Common.{◌≡◌, ℕ, zero, suc, ◌<◌, Bool, true, false, cond, List, [], ◌∷◌, map, length, get_or, is_some, MatchOption, Some, None, Option, sym, refl, ap, ◌∙◌, arith}
-use Rattle.std.proofs.lemmas.Bool.{true≢false}
+use Rattle.std.proofs.Common.{◌≡◌, ℕ, zero, suc, ◌<◌, true, false, cond, List, [], ◌∷◌, map, length, get_or, MatchOption, Some, None, Option, sym, refl, ap, ◌∙◌, subst, arith}
+use Rattle.std.proofs.lemmas.Option.{cond_some}
 use Rattle.controller_log.specs.Detectors.{names}
-use Rattle.controller_log.specs.LeadRows.{if_named, first_row, NoneBelow, Lowest}
+use Rattle.controller_log.specs.LeadRows.{if_named, first_row, Lowest}
 use Rattle.controller_log.specs.declared.detector.DetectorRow.{DetectorRow}
 use Rattle.controller_log.specs.declared.detector.Wanted.{Wanted}
 use Rattle.controller_log.proofs.Answered.{FirstAnswer}
@@ -25,21 +25,18 @@ pub first_found : (f : Option DetectorRow → Option DetectorRow) (places : List
 first_found f places None none = sym (first_none f places none)
 first_found f places (Some y) (k, a) = sym (first_some f places k y a)
 
--- the lead row stands at the lowest place whose row names the phase and a use
-module _ (wanted : Wanted) where
-  below_more : (o : Option DetectorRow) (places : List (Option DetectorRow)) (k : ℕ) → ((d : DetectorRow) → o ≡ Some d → names wanted d ≡ false) → NoneBelow k wanted places → NoneBelow (suc k) wanted (o ∷ places)
-  below_more o places k here later zero d l e = here d e
-  below_more o places k here later (suc j) d l e = later j d (omega arith) e
+named_some : (wanted : Wanted) (place : Option DetectorRow) (d : DetectorRow) → if_named wanted place ≡ Some d → (place ≡ Some d) × (names wanted d ≡ true)
+named_some wanted None d e = absurd (grind arith)
+named_some wanted (Some c) d e = let k = cond_some (names wanted c) c d e in (ap Some k.1, subst (λ x. names wanted x ≡ true) k.1 k.0)
 
-  lowest_later : (o : Option DetectorRow) (places : List (Option DetectorRow)) (r : Option DetectorRow) → ((d : DetectorRow) → o ≡ Some d → names wanted d ≡ false) → Lowest wanted places r → Lowest wanted (o ∷ places) r
-  lowest_later o places None here l = below_more o places (length places) here l
-  lowest_later o places (Some d) here l = (suc l.0, l.1, l.2, below_more o places l.0 here l.3)
+named_none : (wanted : Wanted) (d : DetectorRow) → if_named wanted (Some d) ≡ None → names wanted d ≡ false
+named_none wanted d = elim (names wanted d) as (λ b. cond b (Some d) None ≡ None → b ≡ false) [ true ↦ λ e. absurd (grind arith) | false ↦ λ e. refl ]
 
-  pub lowest : (places : List (Option DetectorRow)) → Lowest wanted places (first_row (map (if_named wanted) places))
-  lowest [] = λ j d l e. absurd (omega arith)
-  lowest (None ∷ places) = lowest_later None places (first_row (map (if_named wanted) places)) (λ d e. absurd (true≢false (sym (ap is_some e)))) (lowest places)
-  lowest (Some d ∷ places) = at (lowest places) (names wanted d) refl
-    where
-      at : Lowest wanted places (first_row (map (if_named wanted) places)) → (b : Bool) → names wanted d ≡ b → Lowest wanted (Some d ∷ places) (first_row (cond b (Some d) None ∷ map (if_named wanted) places))
-      at rest true e = (0, refl, e, λ j c l q. absurd (omega arith))
-      at rest false e = lowest_later (Some d) places (first_row (map (if_named wanted) places)) (λ c q. let same : d ≡ c = cc in ap (names wanted) (sym same) ∙ e) rest
+-- the row that is found first stands at the lowest place that is wanted
+pub lowest : (wanted : Wanted) (places : List (Option DetectorRow)) (r : Option DetectorRow)
+    → MatchOption r ((j : ℕ) (d : Option DetectorRow) → j < length places → if_named wanted (get_or places j d) ≡ None) (λ y. (k : ℕ) × FirstAnswer (if_named wanted) places k y)
+    → Lowest wanted places r
+lowest wanted places None none = λ j d l e. named_none wanted d (ap (if_named wanted) (sym e) ∙ none j None l)
+lowest wanted places (Some d) (k, a) =
+    let here = named_some wanted (get_or places k None) d (a.here None) in
+    (k, here.0, here.1, λ j c l e. named_none wanted c (ap (if_named wanted) (sym e) ∙ a.before j None l))

@@ -1,13 +1,10 @@
 -- What is known of 8 bytes that read as a row.
-use Rattle.std.proofs.Common.{◌≡◌, ℕ, ◌≤◌, Bool, true, false, cond, ◌&&◌, eqb, leb, List, length, get_or, Some, None, refl, subst, arith}
+use Rattle.std.proofs.Common.{◌≡◌, ℕ, ◌≤◌, true, ◌&&◌, eqb, leb, List, length, get_or, Some, subst}
+use Rattle.std.proofs.lemmas.Option.{cond_some}
 use Rattle.std.proofs.lemmas.Bool.{and_parts, eqb-true, leb-true}
 use Rattle.controller_log.specs.Detectors.{within, in_range, row_fields, read_row}
 use Rattle.controller_log.specs.Limits.{record_size, channels, all_uses}
 use Rattle.controller_log.specs.declared.detector.DetectorRow.{DetectorRow}
-
-kept : {X : Type 0} (b : Bool) (x y : X) → cond b (Some x) None ≡ Some y → (b ≡ true) × (x ≡ y)
-kept true x y e = (refl, (cc))
-kept false x y e = absurd (let z : ◌≡◌ {A = ℕ} 0 1 = cc in omega arith)
 
 pub record RowFacts (bs : List ℕ) (w : ℕ × DetectorRow) : Type 0 where
   pub size : length bs ≡ record_size
@@ -18,7 +15,7 @@ pub record RowFacts (bs : List ℕ) (w : ℕ × DetectorRow) : Type 0 where
 
 pub row_facts : (bs : List ℕ) (w : ℕ × DetectorRow) → read_row bs ≡ Some w → RowFacts bs w
 row_facts bs w e =
-    let k = kept (eqb (length bs) record_size && (leb (get_or bs 2 0) all_uses && (eqb (get_or bs 3 0) 0 && in_range (get_or bs 0 0) (row_fields bs)))) (get_or bs 0 0, row_fields bs) w e in
+    let k = cond_some (eqb (length bs) record_size && (leb (get_or bs 2 0) all_uses && (eqb (get_or bs 3 0) 0 && in_range (get_or bs 0 0) (row_fields bs)))) (get_or bs 0 0, row_fields bs) w e in
     let size = and_parts (eqb (length bs) record_size) _ k.0 in
     let uses = and_parts (leb (get_or bs 2 0) all_uses) _ size.1 in
     let zeros = and_parts (eqb (get_or bs 3 0) 0) _ uses.1 in

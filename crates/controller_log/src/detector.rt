@@ -103,6 +103,7 @@ pub struct Wanted {
 }
 
 // The row of one channel; the table's place says which channel. Travel and latency are in tenths of a second.
+// A channel and its row stay two values: whoever gets both takes them apart at once.
 #[derive(Clone, Copy, PartialEq, Eq, Debug)]
 pub struct DetectorRow {
     pub phase: u8,
@@ -113,6 +114,7 @@ pub struct DetectorRow {
 
 impl DetectorRow {
     // The channel and the row in 8 bytes, or none where a value is out of range.
+    // A method: no TryFrom can be written for a pair.
     pub fn read(bytes: &[u8]) -> Option<(u8, DetectorRow)>
         ensures value { result ≡ read_row bytes.now }
         ensures written_back { IfSome result (λ w. row_bytes w.0 w.1 ≡ bytes.now) }
@@ -140,6 +142,7 @@ impl DetectorRow {
     }
 
     // The 8 bytes of this row at a channel; they read back as both, unless a value is out of range.
+    // A method: a From has no place for the channel.
     pub fn to_bytes(&self, channel: u8) -> [u8; RECORD_SIZE]
         ensures value { result ≡ row_bytes channel self.now }
         ensures read_back { in_range channel self.now ≡ true → read_row result ≡ Some (channel, self.now) }

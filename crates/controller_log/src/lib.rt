@@ -1,7 +1,6 @@
 // Everything that is read from bytes: log records, detector tables, and the refusals that meet bad ones.
 #![tactic(auto)]
 
-pub mod codes;
 pub mod detector;
 pub mod event;
 pub mod limits;

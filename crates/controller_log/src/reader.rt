@@ -1,28 +1,29 @@
 // A log read record by record: the bytes of each with its number from 1, a short last piece too.
 ghost use Rattle.std.specs.Prelude.{◌≡◌, ◌+◌, ◌^◌, ◌<◌, length};
 ghost use Rattle.std.specs.Iterator.{at_most};
+ghost use Rattle.std.specs.Iterator.Adapters.{enumerate_source, enumerate_count};
 ghost use Rattle.std.specs.Slice.Iter.{chunks_rest, chunks_size};
 ghost use Rattle.controller_log.specs.Limits.{record_size};
 ghost use Rattle.controller_log.specs.Pieces.{pieces, Cuts};
 ghost use Rattle.controller_log.specs.Readers.{Reading, Yields};
 
 use crate::limits::RECORD_SIZE;
+use std::iter::Enumerate;
 use std::marker::Model;
 use std::slice::Chunks;
 
-// A cursor over a log's pieces, and how many of them it has yielded.
+// A cursor over a log's pieces, which counts them.
 #[derive(Drop)]
 pub struct LogReader<'a> {
-    chunks: Chunks<'a, u8>,
-    number: usize,
+    chunks: Enumerate<Chunks<'a, u8>>,
 }
 
 impl<'a> Model for LogReader<'a> {
     ghost Value = { Reading };
 
-    ghost view = { λ r. record { to_come = pieces (chunks_rest r.chunks); number = r.number } };
+    ghost view = { λ r. record { to_come = pieces (chunks_rest (enumerate_source r.chunks)); number = enumerate_count r.chunks } };
 
-    ghost invariant = { λ r. (chunks_size r.chunks ≡ record_size) × (r.number + length (chunks_rest r.chunks) < 2 ^ 64) };
+    ghost invariant = { λ r. (chunks_size (enumerate_source r.chunks) ≡ record_size) × (enumerate_count r.chunks + length (chunks_rest (enumerate_source r.chunks)) < 2 ^ 64) };
 }
 
 impl<'a> LogReader<'a> {
@@ -34,8 +35,7 @@ impl<'a> LogReader<'a> {
         ensures countable { length result.to_come < 2 ^ 64 }
     {
         LogReader {
-            chunks: log.chunks(RECORD_SIZE),
-            number: 0,
+            chunks: log.chunks(RECORD_SIZE).enumerate(),
         }
     }
 }
@@ -48,8 +48,7 @@ impl<'a> Iterator for LogReader<'a> {
     ghost remaining = { λ s. at_most (length s.to_come) };
 
     fn next(&mut self) -> Option<(usize, &'a [u8])> {
-        let piece = self.chunks.next()?;
-        self.number += 1;
-        Some((self.number, piece))
+        let (before, piece) = self.chunks.next()?;
+        Some((before + 1, piece))
     }
 }

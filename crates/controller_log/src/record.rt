@@ -10,12 +10,14 @@ use crate::refusal::Refusal;
 #[derive(Clone, Copy, PartialEq, Eq, Debug)]
 pub struct Record {
     pub moment: u32,
+    // Any byte: a log has codes by which the engine knows no event.
     pub code: u8,
     pub parameter: u8,
 }
 
 impl Record {
     // The record of 8 bytes, or the first refusal that meets them.
+    // A method: a TryFrom would say its three promises as one, without their names.
     pub fn read(bytes: &[u8]) -> Result<Record, Refusal>
         ensures value { answer result ≡ read_record bytes.now }
         ensures moment { IfOk result (λ d. d.moment ≤ max_moment) }
@@ -42,6 +44,7 @@ impl Record {
     }
 
     // The 8 bytes of a record; they read back as the record, unless its moment is over the limit.
+    // A method, so that both promises have their names.
     pub fn to_bytes(&self) -> [u8; RECORD_SIZE]
         ensures value { result ≡ record_bytes self.now }
         ensures read_back { self.now.moment ≤ max_moment → read_record result ≡ Ok self.now }

@@ -31,7 +31,7 @@ pub enum Refusal {
 }
 
 impl Refusal {
-    // The number by which every document and listing calls this refusal.
+    // The number by which every document and listing calls this refusal; a case may have a row besides.
     pub fn number(&self) -> u8
         ensures { result ≡ (told self.now).number }
     {
@@ -60,6 +60,7 @@ impl Refusal {
         }
     }
 
+    // Without the row, which Display adds.
     #[tactic(auto, unfolding(crate::specs::Refusals::words))]
     fn words(&self) -> &'static str
         ensures { result.now ≡ slice_index_or words (told self.now).number [] }

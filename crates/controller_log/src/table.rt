@@ -13,6 +13,7 @@ use crate::limits::{MAX_TABLE_SIZE, RECORD_SIZE, TABLE_PLACES};
 use crate::refusal::Refusal;
 use std::marker::Model;
 
+// A place a channel, and no map of std: fixed memory, and a look-up in constant time.
 #[derive(Clone, Copy)]
 pub struct DetectorTable {
     places: [Option<DetectorRow>; TABLE_PLACES],
@@ -59,7 +60,8 @@ impl DetectorTable {
 
     // The rows that are wanted, each at its channel's place.
     pub fn rows_naming(&self, wanted: Wanted) -> DetectorTable
-        ensures { result ≡ rows_naming wanted self.now }
+        ensures value { result ≡ rows_naming wanted self.now }
+        ensures places { length result ≡ channels }
     {
         DetectorTable {
             places: self
@@ -72,6 +74,7 @@ impl DetectorTable {
     pub fn lead_row(&self, wanted: Wanted) -> Option<DetectorRow>
         ensures value { result ≡ lead_row wanted self.now }
         ensures lowest { Lowest wanted self.now result }
+        ensures places { length self.now ≡ channels }
     {
         self.places
             .iter()
@@ -79,6 +82,7 @@ impl DetectorTable {
     }
 
     // The table in a file of 8-byte rows, or the first refusal that meets it.
+    // A method: a TryFrom would say both its promises as one, without their names.
     pub fn read(bytes: &[u8]) -> Result<DetectorTable, Refusal>
         ensures value { answer result ≡ read_table bytes.now }
         ensures rules { TableRules bytes.now (answer result) }

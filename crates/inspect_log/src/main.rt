@@ -19,6 +19,7 @@ fn run(rt: &HostRuntime) -> anyhow::Result<()> {
     Ok(())
 }
 
+// A match: the folder that is taken otherwise needs memory, and no shorter form lets a default fail.
 fn input_folder(rt: &HostRuntime) -> io::Result<PathBuf> {
     match env::args(rt)?.nth(1) {
         Some(folder) => Ok(PathBuf::from(folder)),

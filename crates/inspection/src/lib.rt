@@ -49,11 +49,12 @@ impl Model for Listing {
 }
 
 impl Listing {
-    // The rows in the order of their channels; answers how many there are.
+    // The rows in the order of their channels, each told with its own; answers how many there are.
     fn add_table(&mut self, table: &DetectorTable) -> Result<usize, AllocError>
         ensures lines { OnOk result (self.new ≡ self.old ++ rows_text table.now channels) }
         ensures count { IfOk result (λ n. n ≡ rows_count table.now channels) }
     {
+        // Counted by hand: a chain in which each line may fail is no plainer.
         let mut rows = 0;
         for channel in 1..=CHANNELS {
             if let Some(row) = table.lookup(channel) {
@@ -83,6 +84,7 @@ impl Listing {
     fn add_log(&mut self, rows: usize, log: &[u8]) -> Result<(), AllocError>
         ensures { OnOk result (self.new ≡ self.old ++ log_text rows 0 (pieces log.now)) }
     {
+        // The last number is their count.
         let mut records = 0;
         for (number, bytes) in LogReader::new(log) {
             match Record::read(bytes) {
@@ -109,7 +111,7 @@ impl Listing {
         self.add_event(code)
     }
 
-    // The end of a record's line: the event's name, if the engine knows its code.
+    // The end of a record's line, by its code as the log has it: the event's name, if the engine knows one.
     fn add_event(&mut self, code: u8) -> Result<(), AllocError>
         ensures { OnOk result (self.new ≡ self.old ++ event_end (event code)) }
     {

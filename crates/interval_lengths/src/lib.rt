@@ -2,12 +2,12 @@
 // A cycle runs from one begin of green to the next: green, yellow, red clearance, red.
 #![tactic(auto)]
 
-ghost use Rattle.std.specs.Prelude.{◌≡◌};
+ghost use Rattle.std.specs.Prelude.{◌≡◌, refl, [], ◌∷◌};
+ghost use Rattle.controller_log.specs.declared.event.Event.TheVariants.{GreenBegins};
 ghost use Rattle.interval_lengths.specs.IntervalLengths.{interval_lengths, lengths_lawful, Lengths, tally};
-ghost use Rattle.measures.specs.Meanings.{Calls, Whole, tallied, MayClose, Answers};
 
-use controller_log::codes::{GREEN_BEGINS, RED_CLEARANCE_ENDS, YELLOW_BEGINS, YELLOW_ENDS};
 use controller_log::detector::{DetectorRow, Uses};
+use controller_log::event::Event;
 use measures::channels::ChannelSet;
 use measures::limits::FIGURES;
 use measures::measure::{Measure, NoSettings};
@@ -17,15 +17,84 @@ use measures::own::OwnRecord;
 #[derive(Drop)]
 pub struct IntervalLengths {
     green: u32,
+    // Each 0 until it begins: close may come at any time, and would read a None as 0.
     yellow: u32,
     clearance: u32,
     red: u32,
 }
 
 impl IntervalLengths {
-    fn figures(&self, moment: u32) -> [u64; FIGURES]
-        ensures { MayClose interval_lengths (tally self.now) moment → Answers interval_lengths (tally self.now) moment result }
+    fn opened_at(moment: u32) -> IntervalLengths
+        ensures { tally result ≡ moment ∷ 0 ∷ 0 ∷ 0 ∷ [] }
     {
+        IntervalLengths {
+            green: moment,
+            yellow: 0,
+            clearance: 0,
+            red: 0,
+        }
+    }
+}
+
+impl Measure for IntervalLengths {
+    type Settings = NoSettings;
+
+    const OPENING: Event = Event::GreenBegins;
+
+    ghost OPENING = { GreenBegins };
+
+    const FURTHER: &'static [Event] = &[
+        Event::YellowBegins,
+        Event::YellowEnds,
+        Event::RedClearanceEnds,
+    ];
+
+    ghost settings = { λ _. record {} };
+
+    ghost meaning = { λ _. interval_lengths };
+
+    ghost tally = { tally };
+
+    ghost words = { λ _. Lengths };
+
+    ghost lawful = { λ _. lengths_lawful };
+
+    ghost opens = { λ _. refl };
+
+    fn new(chosen: NoSettings) -> Self {
+        IntervalLengths::opened_at(0)
+    }
+
+    fn further_codes() -> &'static [Event] {
+        Self::FURTHER
+    }
+
+    fn uses(&self) -> Uses {
+        Uses::NONE
+    }
+
+    fn reads_presence(&self) -> bool {
+        false
+    }
+
+    fn shift(&self, row: &DetectorRow) -> i32 {
+        0
+    }
+
+    fn open(&mut self, moment: u32, occupied: ChannelSet) {
+        *self = IntervalLengths::opened_at(moment);
+    }
+
+    fn step(&mut self, own: OwnRecord) {
+        match own.event() {
+            Some(Event::YellowBegins) => self.yellow = own.adjusted,
+            Some(Event::YellowEnds) => self.clearance = own.adjusted,
+            Some(Event::RedClearanceEnds) => self.red = own.adjusted,
+            _ => {}
+        }
+    }
+
+    fn close(&self, moment: u32) -> [u64; FIGURES] {
         [
             u64::from(self.yellow.saturating_sub(self.green)),
             u64::from(self.clearance.saturating_sub(self.yellow)),
@@ -39,88 +108,15 @@ impl IntervalLengths {
     }
 }
 
-impl Measure for IntervalLengths {
-    type Settings = NoSettings;
-
-    const OPENING: u8 = GREEN_BEGINS;
-
-    const FURTHER: &'static [u8] = &[YELLOW_BEGINS, YELLOW_ENDS, RED_CLEARANCE_ENDS];
-
-    ghost settings = { λ _. record {} };
-
-    ghost meaning = { λ _. interval_lengths };
-
-    ghost tally = { tally };
-
-    ghost lawful = { λ _. lengths_lawful };
-
-    fn new(chosen: NoSettings) -> Self {
-        IntervalLengths {
-            green: 0,
-            yellow: 0,
-            clearance: 0,
-            red: 0,
-        }
-    }
-
-    fn opening_code() -> u8 {
-        Self::OPENING
-    }
-
-    fn further_codes() -> &'static [u8] {
-        Self::FURTHER
-    }
-
-    fn uses(&self) -> Uses {
-        Uses {
-            arrivals: false,
-            presence: false,
-            red_light: false,
-        }
-    }
-
-    fn reads_presence(&self) -> bool {
-        false
-    }
-
-    fn shift(&self, row: &DetectorRow) -> i32 {
-        0
-    }
-
-    fn open(&mut self, moment: u32, occupied: ChannelSet) {
-        *self = IntervalLengths {
-            green: moment,
-            yellow: 0,
-            clearance: 0,
-            red: 0,
-        };
-    }
-
-    fn step(&mut self, own: OwnRecord) {
-        match own.code {
-            YELLOW_BEGINS => self.yellow = own.adjusted,
-            YELLOW_ENDS => self.clearance = own.adjusted,
-            RED_CLEARANCE_ENDS => self.red = own.adjusted,
-            _ => {}
-        }
-    }
-
-    fn close(&self, moment: u32) -> [u64; FIGURES]
-        ensures figures { MayClose interval_lengths (tally self.now) moment → Answers interval_lengths (tally self.now) moment result }
-        ensures whole_cycle { (c : Calls) → Whole interval_lengths c moment → tally self.now ≡ tallied interval_lengths c → Lengths c moment result }
-    {
-        self.figures(moment)
-    }
-}
-
 #[cfg(test)]
 mod tests {
     use super::*;
     use measures::cycle::figures_of_cycle;
 
-    fn phase(adjusted: u32, code: u8) -> OwnRecord {
+    // Of phase 2; said here too, so that the example needs no other crate's tests.
+    fn phase(adjusted: u32, event: Event) -> OwnRecord {
         OwnRecord {
-            code,
+            code: u8::from(event),
             parameter: 2,
             adjusted,
         }
@@ -129,11 +125,11 @@ mod tests {
     #[test]
     fn each_interval_has_its_length(rt: HostRuntime) {
         let between = [
-            phase(1300, YELLOW_BEGINS),
-            phase(1340, YELLOW_ENDS),
-            phase(1360, RED_CLEARANCE_ENDS),
+            phase(1300, Event::YellowBegins),
+            phase(1340, Event::YellowEnds),
+            phase(1360, Event::RedClearanceEnds),
         ];
-        let mut measure = <IntervalLengths as Measure>::new(NoSettings);
+        let mut measure = IntervalLengths::new(NoSettings);
         assert_eq!(rt;
             figures_of_cycle(&mut measure, 1000, ChannelSet::empty(), &between, 2000),
             [300, 40, 20, 640, 0, 0, 0, 0]

@@ -1,19 +1,21 @@
 // Arrivals: red from the opening, green from g, yellow from y.
-use crate::cases::{arrivals, off, on, phase};
-use controller_log::codes::{GREEN_BEGINS, MAX_OUT, RED_CLEARANCE_ENDS, YELLOW_BEGINS};
+use crate::cases::{cycle, off, on, phase};
+use controller_log::event::Event;
+use measures::arrivals::Arrivals;
+use measures::measure::{Measure, NoSettings};
 
 #[test]
 fn lengths_counts_and_waits(rt: HostRuntime) {
     let between = [
         on(1768, 5),
-        phase(1800, GREEN_BEGINS),
+        phase(1800, Event::GreenBegins),
         on(1808, 5),
         on(1888, 5),
-        phase(2100, YELLOW_BEGINS),
+        phase(2100, Event::YellowBegins),
         on(2108, 5),
     ];
     assert_eq!(rt;
-        arrivals(1640, &between, 2140),
+        cycle(Arrivals::new(NoSettings), 1640, &[], &between, 2140),
         [160, 300, 40, 1, 2, 1, 32, 0]
     );
 }
@@ -23,15 +25,15 @@ fn an_activation_at_a_change_belongs_to_what_begins(rt: HostRuntime) {
     let between = [
         on(1000, 5),
         on(1099, 5),
-        phase(1100, GREEN_BEGINS),
+        phase(1100, Event::GreenBegins),
         on(1100, 5),
         on(1299, 5),
-        phase(1300, YELLOW_BEGINS),
+        phase(1300, Event::YellowBegins),
         on(1300, 5),
         on(1339, 5),
     ];
     assert_eq!(rt;
-        arrivals(1000, &between, 1340),
+        cycle(Arrivals::new(NoSettings), 1000, &[], &between, 1340),
         [100, 200, 40, 2, 2, 2, 101, 0]
     );
 }
@@ -40,15 +42,15 @@ fn an_activation_at_a_change_belongs_to_what_begins(rt: HostRuntime) {
 fn other_records_count_nothing(rt: HostRuntime) {
     let between = [
         off(1010, 5),
-        phase(1030, RED_CLEARANCE_ENDS),
-        phase(1100, GREEN_BEGINS),
+        phase(1030, Event::RedClearanceEnds),
+        phase(1100, Event::GreenBegins),
         off(1150, 5),
-        phase(1300, MAX_OUT),
-        phase(1300, YELLOW_BEGINS),
+        phase(1300, Event::MaxOut),
+        phase(1300, Event::YellowBegins),
         off(1310, 5),
     ];
     assert_eq!(rt;
-        arrivals(1000, &between, 1340),
+        cycle(Arrivals::new(NoSettings), 1000, &[], &between, 1340),
         [100, 200, 40, 0, 0, 0, 0, 0]
     );
 }

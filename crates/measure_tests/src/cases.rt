@@ -1,51 +1,43 @@
-// What the tests share: own records, and cycles played on fresh measures.
-use controller_log::codes::{DETECTOR_OFF, DETECTOR_ON};
-use measures::arrivals::Arrivals;
+// What the tests share: own records, and cycles played on measures.
+use controller_log::event::Event;
 use measures::channels::ChannelSet;
 use measures::cycle::figures_of_cycle;
-use measures::measure::{Measure, NoSettings};
+use measures::measure::Measure;
 use measures::own::OwnRecord;
-use measures::split_failures::SplitFailures;
 
-pub(crate) fn on(adjusted: u32, channel: u8) -> OwnRecord {
+fn record(adjusted: u32, event: Event, parameter: u8) -> OwnRecord {
     OwnRecord {
-        code: DETECTOR_ON,
-        parameter: channel,
+        code: u8::from(event),
+        parameter,
         adjusted,
     }
+}
+
+pub(crate) fn on(adjusted: u32, channel: u8) -> OwnRecord {
+    record(adjusted, Event::DetectorOn, channel)
 }
 
 pub(crate) fn off(adjusted: u32, channel: u8) -> OwnRecord {
-    OwnRecord {
-        code: DETECTOR_OFF,
-        parameter: channel,
-        adjusted,
-    }
+    record(adjusted, Event::DetectorOff, channel)
 }
 
 // A record of phase 2.
-pub(crate) fn phase(adjusted: u32, code: u8) -> OwnRecord {
-    OwnRecord {
-        code,
-        parameter: 2,
-        adjusted,
-    }
+pub(crate) fn phase(adjusted: u32, event: Event) -> OwnRecord {
+    record(adjusted, event, 2)
 }
 
 pub(crate) fn channels(some: &[u8]) -> ChannelSet {
-    let mut set = ChannelSet::empty();
-    for channel in some {
-        set = set.with(*channel);
-    }
-    set
+    some.iter()
+        .fold(ChannelSet::empty(), |set, channel| set.with(*channel))
 }
 
-pub(crate) fn arrivals(opened: u32, between: &[OwnRecord], closed: u32) -> [u64; 8] {
-    let mut measure = <Arrivals as measures::measure::Measure>::new(NoSettings);
-    figures_of_cycle(&mut measure, opened, ChannelSet::empty(), between, closed)
-}
-
-pub(crate) fn splits(opened: u32, occupied: &[u8], between: &[OwnRecord], closed: u32) -> [u64; 8] {
-    let mut measure = <SplitFailures as measures::measure::Measure>::new(NoSettings);
+// The figures of one cycle, with these channels occupied at its opening.
+pub(crate) fn cycle<M: Measure + Drop>(
+    mut measure: M,
+    opened: u32,
+    occupied: &[u8],
+    between: &[OwnRecord],
+    closed: u32,
+) -> [u64; 8] {
     figures_of_cycle(&mut measure, opened, channels(occupied), between, closed)
 }

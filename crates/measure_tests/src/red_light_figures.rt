@@ -1,9 +1,7 @@
 // Red-light: entries by interval, and how late on red they are.
-use crate::cases::{on, phase};
-use controller_log::codes::{GREEN_BEGINS, RED_CLEARANCE_ENDS, YELLOW_ENDS};
+use crate::cases::{cycle, on, phase};
+use controller_log::event::Event;
 use controller_log::refusal::Refusal;
-use measures::channels::ChannelSet;
-use measures::cycle::figures_of_cycle;
 use measures::measure::Measure;
 use measures::red_light::RedLight;
 use measures::severity::Severity;
@@ -12,17 +10,17 @@ use std::test::Fail;
 // Yellow from 1000, red clearance from 1040, red from 1060, green from 1500.
 fn entry(severity: u8, adjusted: u32) -> Result<[u64; 8], Refusal> {
     let entry = on(adjusted, 7);
-    let red = phase(1040, YELLOW_ENDS);
-    let clear = phase(1060, RED_CLEARANCE_ENDS);
-    let green = phase(1500, GREEN_BEGINS);
-    let cycle = match adjusted {
+    let red = phase(1040, Event::YellowEnds);
+    let clear = phase(1060, Event::RedClearanceEnds);
+    let green = phase(1500, Event::GreenBegins);
+    let between = match adjusted {
         0..1040 => [entry, red, clear, green],
         1040..1060 => [red, entry, clear, green],
         1060..1500 => [red, clear, entry, green],
         _ => [red, clear, green, entry],
     };
-    let mut measure = <RedLight as measures::measure::Measure>::new(Severity::new(severity)?);
-    Ok(figures_of_cycle(&mut measure, 1000, ChannelSet::empty(), &cycle, 2000))
+    let measure = RedLight::new(Severity::new(severity)?);
+    Ok(cycle(measure, 1000, &[], &between, 2000))
 }
 
 #[test]
@@ -48,11 +46,9 @@ fn an_entry_is_severe_from_the_setting_on(rt: HostRuntime) -> Result<(), Fail> {
 #[test]
 fn a_severity_is_at_most_200(rt: HostRuntime) -> Result<(), Fail> {
     assert_eq!(rt; Severity::new(200)?.tenths(), 200);
-    match Severity::new(201) {
-        Ok(_) => Err(Fail::new("201 was taken")),
-        Err(refusal) => {
-            assert_eq!(rt; refusal.number(), 8);
-            Ok(())
-        },
-    }
+    assert_eq!(rt;
+        Severity::new(201).map_err(|refusal| refusal.number()),
+        Err(8)
+    );
+    Ok(())
 }

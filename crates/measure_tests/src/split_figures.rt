@@ -1,19 +1,21 @@
 // Split failures: the occupied tenths of green and of the red window, the cause, and the failure.
-use crate::cases::{off, on, phase, splits};
-use controller_log::codes::{FORCE_OFF, GAP_OUT, MAX_OUT, YELLOW_BEGINS, YELLOW_ENDS};
+use crate::cases::{cycle, off, on, phase};
+use controller_log::event::Event;
+use measures::measure::{Measure, NoSettings};
+use measures::split_failures::SplitFailures;
 
 #[test]
 fn a_failed_split(rt: HostRuntime) {
     let between = [
         off(700, 9),
         on(720, 9),
-        phase(900, FORCE_OFF),
-        phase(900, YELLOW_BEGINS),
-        phase(940, YELLOW_ENDS),
+        phase(900, Event::ForceOff),
+        phase(900, Event::YellowBegins),
+        phase(940, Event::YellowEnds),
         off(985, 9),
     ];
     assert_eq!(rt;
-        splits(500, &[9], &between, 1500),
+        cycle(SplitFailures::new(NoSettings), 500, &[9], &between, 1500),
         [400, 380, 45, 6, 1, 0, 0, 0]
     );
 }
@@ -22,12 +24,12 @@ fn a_failed_split(rt: HostRuntime) {
 fn occupied_for(green: u32, red: u32) -> [u64; 8] {
     let between = [
         off(1000u32.saturating_add(green), 9),
-        phase(1400, YELLOW_BEGINS),
-        phase(1440, YELLOW_ENDS),
+        phase(1400, Event::YellowBegins),
+        phase(1440, Event::YellowEnds),
         on(1440, 9),
         off(1440u32.saturating_add(red), 9),
     ];
-    splits(1000, &[9], &between, 2000)
+    cycle(SplitFailures::new(NoSettings), 1000, &[9], &between, 2000)
 }
 
 #[test]
@@ -42,16 +44,16 @@ fn the_red_window_ends_after_50_tenths_or_at_the_close(rt: HostRuntime) {
     assert_eq!(rt; occupied_for(0, 50), [400, 0, 50, 0, 0, 0, 0, 0]);
     assert_eq!(rt; occupied_for(0, 300), [400, 0, 50, 0, 0, 0, 0, 0]);
     let between = [
-        phase(1400, YELLOW_BEGINS),
-        phase(1440, YELLOW_ENDS),
+        phase(1400, Event::YellowBegins),
+        phase(1440, Event::YellowEnds),
         on(1450, 9),
     ];
     assert_eq!(rt;
-        splits(1000, &[], &between, 1470),
+        cycle(SplitFailures::new(NoSettings), 1000, &[], &between, 1470),
         [400, 0, 20, 0, 0, 0, 0, 0]
     );
     assert_eq!(rt;
-        splits(1000, &[], &between, 1600),
+        cycle(SplitFailures::new(NoSettings), 1000, &[], &between, 1600),
         [400, 0, 40, 0, 0, 0, 0, 0]
     );
 }
@@ -62,24 +64,27 @@ fn a_tenth_counts_once_however_many_channels_are_occupied(rt: HostRuntime) {
         on(1100, 10),
         off(1150, 9),
         off(1200, 10),
-        phase(1400, YELLOW_BEGINS),
-        phase(1440, YELLOW_ENDS),
+        phase(1400, Event::YellowBegins),
+        phase(1440, Event::YellowEnds),
     ];
     assert_eq!(rt;
-        splits(1000, &[9], &between, 2000),
+        cycle(SplitFailures::new(NoSettings), 1000, &[9], &between, 2000),
         [400, 200, 0, 0, 0, 0, 0, 0]
     );
 }
 
 #[test]
 fn channels_occupied_at_the_opening_count_from_there(rt: HostRuntime) {
-    let between = [phase(1400, YELLOW_BEGINS), phase(1440, YELLOW_ENDS)];
+    let between = [
+        phase(1400, Event::YellowBegins),
+        phase(1440, Event::YellowEnds),
+    ];
     assert_eq!(rt;
-        splits(1000, &[], &between, 2000),
+        cycle(SplitFailures::new(NoSettings), 1000, &[], &between, 2000),
         [400, 0, 0, 0, 0, 0, 0, 0]
     );
     assert_eq!(rt;
-        splits(1000, &[64], &between, 2000),
+        cycle(SplitFailures::new(NoSettings), 1000, &[64], &between, 2000),
         [400, 400, 50, 0, 1, 0, 0, 0]
     );
 }
@@ -87,25 +92,34 @@ fn channels_occupied_at_the_opening_count_from_there(rt: HostRuntime) {
 #[test]
 fn the_first_cause_before_yellow_counts(rt: HostRuntime) {
     let two = [
-        phase(1390, GAP_OUT),
-        phase(1400, FORCE_OFF),
-        phase(1400, YELLOW_BEGINS),
-        phase(1440, YELLOW_ENDS),
+        phase(1390, Event::GapOut),
+        phase(1400, Event::ForceOff),
+        phase(1400, Event::YellowBegins),
+        phase(1440, Event::YellowEnds),
     ];
-    assert_eq!(rt; splits(1000, &[], &two, 2000), [400, 0, 0, 4, 0, 0, 0, 0]);
+    assert_eq!(rt;
+        cycle(SplitFailures::new(NoSettings), 1000, &[], &two, 2000),
+        [400, 0, 0, 4, 0, 0, 0, 0]
+    );
     let late = [
-        phase(1400, YELLOW_BEGINS),
-        phase(1400, MAX_OUT),
-        phase(1440, YELLOW_ENDS),
+        phase(1400, Event::YellowBegins),
+        phase(1400, Event::MaxOut),
+        phase(1440, Event::YellowEnds),
     ];
-    assert_eq!(rt; splits(1000, &[], &late, 2000), [400, 0, 0, 0, 0, 0, 0, 0]);
+    assert_eq!(rt;
+        cycle(SplitFailures::new(NoSettings), 1000, &[], &late, 2000),
+        [400, 0, 0, 0, 0, 0, 0, 0]
+    );
 }
 
 #[test]
 fn a_green_of_no_length_is_no_failure(rt: HostRuntime) {
-    let between = [phase(1000, YELLOW_BEGINS), phase(1040, YELLOW_ENDS)];
+    let between = [
+        phase(1000, Event::YellowBegins),
+        phase(1040, Event::YellowEnds),
+    ];
     assert_eq!(rt;
-        splits(1000, &[9], &between, 2000),
+        cycle(SplitFailures::new(NoSettings), 1000, &[9], &between, 2000),
         [0, 0, 50, 0, 0, 0, 0, 0]
     );
 }

@@ -1,5 +1,6 @@
 // Codes, uses, shifts and sizes of the measures.
 use controller_log::detector::{DetectorRow, Uses};
+use controller_log::event::Event;
 use measures::arrivals::Arrivals;
 use measures::debounced::Debounced;
 use measures::measure::{Measure, NoSettings};
@@ -28,33 +29,41 @@ fn row(travel: u16, latency: u16) -> DetectorRow {
 
 #[test]
 fn cycle_codes(rt: HostRuntime) {
-    assert_eq!(rt; <Arrivals as Measure>::opening_code(), 9);
-    assert_eq!(rt; <Arrivals as Measure>::further_codes(), [1u8, 8].as_slice());
-    assert_eq!(rt; <SplitFailures as Measure>::opening_code(), 1);
+    assert_eq!(rt; Arrivals::opening_code() as u8, 9);
     assert_eq!(rt;
-        <SplitFailures as Measure>::further_codes(),
-        [8u8, 9].as_slice()
+        Arrivals::further_codes(),
+        [Event::GreenBegins, Event::YellowBegins].as_slice()
     );
-    assert_eq!(rt; <RedLight as Measure>::opening_code(), 8);
+    assert_eq!(rt; SplitFailures::opening_code() as u8, 1);
     assert_eq!(rt;
-        <RedLight as Measure>::further_codes(),
-        [9u8, 11, 1].as_slice()
+        SplitFailures::further_codes(),
+        [Event::YellowBegins, Event::YellowEnds].as_slice()
+    );
+    assert_eq!(rt; RedLight::opening_code() as u8, 8);
+    assert_eq!(rt;
+        RedLight::further_codes(),
+        [
+            Event::YellowEnds,
+            Event::RedClearanceEnds,
+            Event::GreenBegins
+        ]
+        .as_slice()
     );
 }
 
 #[test]
 fn uses_presence_and_shift(rt: HostRuntime) -> Result<(), Fail> {
-    let arrivals = <Arrivals as Measure>::new(NoSettings);
+    let arrivals = Arrivals::new(NoSettings);
     assert_eq!(rt; arrivals.uses(), uses(true, false, false));
     assert!(rt; !arrivals.reads_presence());
     assert_eq!(rt; arrivals.shift(&row(80, 12)), 68);
     assert_eq!(rt; arrivals.shift(&row(0, 50)), -50);
     assert_eq!(rt; arrivals.shift(&row(200, 0)), 200);
-    let splits = <SplitFailures as Measure>::new(NoSettings);
+    let splits = SplitFailures::new(NoSettings);
     assert_eq!(rt; splits.uses(), uses(false, true, false));
     assert!(rt; splits.reads_presence());
     assert_eq!(rt; splits.shift(&row(200, 0)), 0);
-    let red_light = <RedLight as Measure>::new(Severity::new(50)?);
+    let red_light = RedLight::new(Severity::new(50)?);
     assert_eq!(rt; red_light.uses(), uses(false, false, true));
     assert!(rt; !red_light.reads_presence());
     assert_eq!(rt; red_light.shift(&row(200, 12)), -12);

@@ -1,11 +1,11 @@
 -- Admissible calls gone through step by step.
-use Rattle.std.proofs.Common.{◌≡◌, ℕ, suc, ◌+◌, ◌<◌, true, false, cond, List, [], ◌∷◌, ◌++◌, map, length, get_or, take, filter, sym, refl, ap, ◌∙◌, subst, append_assoc, arith}
+use Rattle.std.proofs.Common.{◌≡◌, ℕ, suc, ◌+◌, ◌<◌, Bool, true, false, cond, List, [], ◌∷◌, ◌++◌, map, length, get_or, take, filter, sym, refl, ap, ◌∙◌, subst, append_assoc, arith}
 use Rattle.std.specs.List.{AllByRecursion}
 use Rattle.std.proofs.lemmas.List.Elements.{filter-append}
 use Rattle.std.proofs.lemmas.List.{append-nil, length-append, length_push, map-append, get_or_at, take_more}
 use Rattle.std.proofs.lemmas.List.Sums.{fold_push}
 use Rattle.measures.specs.Limits.{most_records}
-use Rattle.measures.specs.Meanings.{Meaning, Calls, calls, opening_at, ◌▹◌, tallied, further_codes, Fits, Before, Ordered, Front, Admissible, MayStep}
+use Rattle.measures.specs.Meanings.{Meaning, Calls, calls, opening_at, ◌▹◌, tallied, further_codes, Fits, Before, Ordered, Front, Admissible, MayStep, MayClose}
 use Rattle.measures.specs.Records.{among}
 use Rattle.measures.specs.declared.own.OwnRecord.{OwnRecord}
 
@@ -16,6 +16,11 @@ grows {X} P none more xs = go [] xs none
     go : (front rest : List X) → P front → P (front ++ rest)
     go front [] p = subst P (sym (append-nil front)) p
     go front (x ∷ rest) p = subst P (append_assoc front (x ∷ []) rest) (go (front ++ x ∷ []) rest (more front x p))
+
+-- a test that every element passes keeps them all
+pub all_pass : {X : Type 0} (p : X → Bool) (xs : List X) → AllByRecursion (λ x. p x ≡ true) xs → filter p xs ≡ xs
+all_pass p [] h = refl
+all_pass p (x ∷ xs) h = rw h.0 (ap (λ l. x ∷ l) (all_pass p xs h.1))
 
 pub all_pop : {X : Type 0} (P : X → Type 0) (xs : List X) (x : X) → AllByRecursion P (xs ++ x ∷ []) → AllByRecursion P xs × P x
 all_pop P [] x a = (tt, a.0)
@@ -113,6 +118,15 @@ along m P start more c a = grows Q (λ b. start c.from c.occupied b) step c.betw
         let d : Calls = record { from = c.from; occupied = c.occupied; between = xs } in
         subst (P (d ▹ s)) (sym (fold_push m.stepped (m.opened c.from c.occupied) xs s))
         (more d s (tallied m d) (so_far m d s b) (next_step m d s b) (h (so_far m d s b)))
+
+-- what holds of the tally along admissible calls holds where a step, or a close, may follow
+pub at_step : (m : Meaning) (P : List ℕ → Type 0) → ((c : Calls) → Admissible m c → P (tallied m c)) → (t : List ℕ) (s : OwnRecord) → MayStep m t s → P t
+unfolding MayStep
+at_step m P all t s (c, e, a) = subst P (sym e) (all c (so_far m c s a))
+
+pub at_close : (m : Meaning) (P : List ℕ → Type 0) → ((c : Calls) → Admissible m c → P (tallied m c)) → (t : List ℕ) (e : ℕ) → MayClose m t e → P t
+unfolding MayClose
+at_close m P all t e (c, q, w) = subst P (sym q) (all c w.admissible)
 
 -- a measure that follows its meaning, stepped through one more of some records
 pub stepped_on : (m : Meaning) (o q : ℕ) (xs : List OwnRecord) (i : ℕ) (d : OwnRecord) (t u : List ℕ) → i < length xs

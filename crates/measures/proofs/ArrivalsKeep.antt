@@ -11,7 +11,7 @@ use Rattle.measures.specs.Meanings.{Calls, tallied, Fits, Admissible, Whole, May
 use Rattle.measures.specs.Records.{activation, count, total}
 use Rattle.measures.specs.declared.interval.Interval.TheVariants.{Green, Yellow, Red}
 use Rattle.measures.specs.declared.own.OwnRecord.{OwnRecord}
-use Rattle.measures.proofs.Along.{marks, so_far}
+use Rattle.measures.proofs.Along.{marks, at_step, at_close}
 use Rattle.measures.proofs.Marks.{Keeping, kept_along, Rises, marks_are, in_order, from_opening}
 use Rattle.measures.proofs.Moments.{weighed, same_sums, counts_on, counts_past, counts_cut, weighed_le, weighed_fits, distances}
 
@@ -164,9 +164,7 @@ room c a =
     }
 
 pub room_to_step : (t : List ℕ) (s : OwnRecord) → MayStep arrivals t s → Room (unlisted t)
-unfolding MayStep
-room_to_step t s (c, e, a) = subst (λ l. Room (unlisted l)) (sym e) (room c (so_far arrivals c s a))
+room_to_step = at_step arrivals (λ l. Room (unlisted l)) room
 
 pub room_to_close : (t : List ℕ) (e : ℕ) → MayClose arrivals t e → Room (unlisted t)
-unfolding MayClose
-room_to_close t e (c, q, w) = subst (λ l. Room (unlisted l)) (sym q) (room c w.admissible)
+room_to_close = at_close arrivals (λ l. Room (unlisted l)) room

@@ -1,6 +1,7 @@
 -- What the debouncing layer hands down of admissible calls, and that these are admissible for the measure below.
 use Rattle.std.proofs.Common.{◌≡◌, ℕ, suc, ◌≤◌, Bool, true, false, cond, ◌&&◌, eqb, List, [], ◌∷◌, ◌++◌, length, Some, None, filter, sym, refl, ap, ◌∙◌, subst, append_assoc, arith}
 use Rattle.std.specs.List.{AllByRecursion}
+use Rattle.std.proofs.ByRecursion.{All-weaker}
 use Rattle.std.proofs.lemmas.List.Elements.{filter-append}
 use Rattle.std.proofs.lemmas.List.{append-nil}
 use Rattle.std.proofs.lemmas.List.Sums.{fold_push}
@@ -8,11 +9,11 @@ use Rattle.std.proofs.lemmas.Bool.{and_parts, cond-false, eqb-true}
 use Rattle.std.proofs.lemmas.Bool.Decides.{nat_tests}
 use Rattle.measures.specs.Channels.{holds}
 use Rattle.measures.specs.Debouncing.{repeats, handed_behind, handed_down, Debounces, DebouncedFigures, front, rest, dropped, next, debounced}
-use Rattle.measures.specs.Meanings.{Meaning, Calls, opening_at, ◌▹◌, tallied, further_codes, Fits, Before, Ordered, Admissible, Whole, Lawful, MayStep, MayClose}
+use Rattle.measures.specs.Meanings.{Meaning, Calls, opening_at, ◌▹◌, tallied, further_codes, Fits, Before, Ordered, Admissible, Whole, Lawful, MayStep, MayClose, Answers}
 use Rattle.measures.specs.Records.{among, activation, detector, of_channel, latest, on_by, occupied_after, changed}
 use Rattle.measures.specs.declared.own.OwnRecord.{OwnRecord}
 use Rattle.measures.proofs.Along.{Next, so_far, next_step, along}
-use Rattle.measures.proofs.Marks.{activation_cuts_nothing}
+use Rattle.measures.proofs.Marks.{activation_cuts_nothing, of_answer}
 use Rattle.measures.proofs.Sets.{holds_changed}
 
 -- one record on, a channel is as that record says, if it is the channel's, and else as it was
@@ -70,14 +71,10 @@ module _ (m : Meaning) (l : Lawful m) (c : Calls) where
     set = a.set;
     unread = a.unread;
     few = (let f = a.few in let h = handed_few c.occupied [] c.between in omega arith);
-    each = handed_all (Fits m c.from) c.occupied [] c.between (fits_below c.between a.each);
+    each = handed_all (Fits m c.from) c.occupied [] c.between (All-weaker (Fits (debounced m) c.from) (Fits m c.from) (λ x f. record { after = f.after; near = f.near; kind = f.kind; place = f.place; inner = f.inner }) c.between a.each);
     ordered = handed_ordered c.occupied [] c.between a.ordered;
     turns = (a.turns.0, ap (λ ks. ks ++ a.turns.0) (handed_codes m l c.occupied [] c.between) ∙ a.turns.1);
   }
-    where
-      fits_below : (xs : List OwnRecord) → AllByRecursion (Fits (debounced m) c.from) xs → AllByRecursion (Fits m c.from) xs
-      fits_below [] f = tt
-      fits_below (x ∷ xs) f = (record { after = f.0.after; near = f.0.near; kind = f.0.kind; place = f.0.place; inner = f.0.inner }, fits_below xs f.1)
 
   pub whole_below : (e : ℕ) → Whole (debounced m) c e → Whole m (handed_down c) e
   whole_below e w = record {
@@ -176,10 +173,15 @@ module _ (m : Meaning) (l : Lawful m) (q : ℕ) (u : List ℕ) where
       debounces_at m (c ▹ s) q' u' a
       (after (c, e, a) ∙ ap (λ t. (debounced m).stepped t s) e ∙ sym (fold_push (debounced m).stepped ((debounced m).opened c.from c.occupied) c.between s))
 
-  pub debounced_figures : (e : ℕ) (r : List ℕ) → (MayClose (debounced m) (q ∷ u) e → r ≡ m.closed u e)
-      → (c : Calls) → Whole (debounced m) c e → q ∷ u ≡ tallied (debounced m) c → DebouncedFigures m c e r
-  unfolding MayClose
-  debounced_figures e r value c w k = record {
-    whole_below = whole_below m l c e w;
-    figures_are = value (c, k, w) ∙ ap (λ t. m.closed t e) (debounces_at m c q u w.admissible k).handed;
-  }
+  -- and a close that is answered below answers the layer's
+  pub debounced_figures : (words : Calls → ℕ → List ℕ → Type 0) (e : ℕ) (r : List ℕ) → (MayClose m u e → Answers m u e r)
+      → ((c : Calls) → Whole m c e → u ≡ tallied m c → words c e r)
+      → (c : Calls) → Whole (debounced m) c e → q ∷ u ≡ tallied (debounced m) c → DebouncedFigures m words c e r
+  debounced_figures words e r answers whole c w k =
+      let b = whole_below m l c e w in
+      let h = (debounces_at m c q u w.admissible k).handed in
+      record {
+        whole_below = b;
+        figures_are = of_answer m (handed_down c) e b u r (λ r. r ≡ m.closed (tallied m (handed_down c)) e) answers h refl;
+        words_below = whole (handed_down c) b h;
+      }

@@ -10,6 +10,7 @@ use Rattle.std.proofs.lemmas.Bool.Decides.{nat_tests}
 use Rattle.measures.specs.Meanings.{Meaning, Calls, Fits, Admissible}
 use Rattle.measures.specs.Records.{activation, count, total}
 use Rattle.measures.specs.declared.own.OwnRecord.{OwnRecord}
+use Rattle.measures.proofs.Along.{all_pass}
 
 -- the moments of ms that come up to a
 abbrev pub upto : ℕ → List ℕ → List ℕ
@@ -31,8 +32,7 @@ sums_where f h (s ∷ xs) a =
     sum_by-cons f s xs ∙ ap (λ n. n + sum_by f xs) a.0 ∙ ap (λ n. h s + n) (sums_where f h xs a.1) ∙ sym (sum_by-cons h s xs)
 
 pub all_upto : (a : ℕ) (ms : List ℕ) → AllByRecursion (λ m. m ≤ a) ms → upto a ms ≡ ms
-all_upto a [] h = refl
-all_upto a (m ∷ ms) h = rw (le-leb m a h.0) (ap (λ l. m ∷ l) (all_upto a ms h.1))
+all_upto a ms h = all_pass (λ m. leb m a) ms (All-weaker (λ m. m ≤ a) (λ m. leb m a ≡ true) (λ m. le-leb m a) ms h)
 
 upto_more : (a n : ℕ) (ms : List ℕ) → a < n → upto a (ms ++ n ∷ []) ≡ upto a ms
 upto_more a n ms l =
@@ -55,15 +55,13 @@ counts_past w ms xs s e n k =
 -- and neither does a further code, which comes after every activation so far
 weighed_mark : (w : List ℕ → ℕ → ℕ) (ms : List ℕ) (n : ℕ) (xs : List OwnRecord) → AllByRecursion (λ x. activation x ≡ true → x.adjusted < n) xs
     → weighed w (ms ++ n ∷ []) xs ≡ weighed w ms xs
-weighed_mark w ms n xs h = sums_where (weight w (ms ++ n ∷ [])) (weight w ms) xs (each xs h)
+weighed_mark w ms n xs h =
+    sums_where (weight w (ms ++ n ∷ [])) (weight w ms) xs
+    (All-weaker (λ x. activation x ≡ true → x.adjusted < n) (λ x. weight w (ms ++ n ∷ []) x ≡ weight w ms x) (λ x. here x (activation x)) xs h)
   where
     here : (x : OwnRecord) (b : Bool) → (b ≡ true → x.adjusted < n) → cond b (w (upto x.adjusted (ms ++ n ∷ [])) x.adjusted) 0 ≡ cond b (w (upto x.adjusted ms) x.adjusted) 0
     here x true l = ap (λ k. w k x.adjusted) (upto_more x.adjusted n ms (l refl))
     here x false l = refl
-
-    each : (xs : List OwnRecord) → AllByRecursion (λ x. activation x ≡ true → x.adjusted < n) xs → AllByRecursion (λ s. weight w (ms ++ n ∷ []) s ≡ weight w ms s) xs
-    each [] h = tt
-    each (x ∷ xs) h = (here x (activation x) h.0, each xs h.1)
 
 pub counts_cut : (w : List ℕ → ℕ → ℕ) (ms : List ℕ) (xs : List OwnRecord) (s : OwnRecord) → activation s ≡ false → AllByRecursion (λ x. activation x ≡ true → x.adjusted < s.adjusted) xs
     → (n : ℕ) → n ≡ weighed w ms xs → n ≡ weighed w (ms ++ s.adjusted ∷ []) (xs ++ s ∷ [])
@@ -71,15 +69,12 @@ counts_cut w ms xs s e h n k = counts_past w (ms ++ s.adjusted ∷ []) xs s e n 
 
 -- a bound on each weight bounds the sum
 pub weighed_le : (w : List ℕ → ℕ → ℕ) (ms : List ℕ) (xs : List OwnRecord) (b : ℕ) → AllByRecursion (λ x. (l : List ℕ) → w l x.adjusted ≤ b) xs → weighed w ms xs ≤ length xs * b
-weighed_le w ms xs b h = sum_by_le (weight w ms) b xs (each xs h)
+weighed_le w ms xs b h =
+    sum_by_le (weight w ms) b xs (All-weaker (λ x. (l : List ℕ) → w l x.adjusted ≤ b) (λ x. weight w ms x ≤ b) (λ x. here x (activation x)) xs h)
   where
     here : (x : OwnRecord) (t : Bool) → ((l : List ℕ) → w l x.adjusted ≤ b) → cond t (w (upto x.adjusted ms) x.adjusted) 0 ≤ b
     here x true l = l (upto x.adjusted ms)
     here x false l = omega arith
-
-    each : (xs : List OwnRecord) → AllByRecursion (λ x. (l : List ℕ) → w l x.adjusted ≤ b) xs → AllByRecursion (λ s. weight w ms s ≤ b) xs
-    each [] h = tt
-    each (x ∷ xs) h = (here x (activation x) h.0, each xs h.1)
 
 -- counts and sums of times fit their registers
 pub weighed_fits : (m : Meaning) (c : Calls) → Admissible m c → (w : List ℕ → ℕ → ℕ) → ((l : List ℕ) (a : ℕ) → w l a ≤ a + 1) → (ms : List ℕ) → weighed w ms c.between < 2 ^ 63

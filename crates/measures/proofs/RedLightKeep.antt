@@ -9,7 +9,7 @@ use Rattle.measures.specs.Records.{activation, count, total}
 use Rattle.measures.specs.RedLight.{Tally, unlisted, either_red, counted, to_show, next, figures, red_light, red_light_lawful, red_at, clear_at, green_at, RedLightFigures}
 use Rattle.measures.specs.declared.interval.Interval.TheVariants.{Green, Yellow, RedClearance, Red}
 use Rattle.measures.specs.declared.own.OwnRecord.{OwnRecord}
-use Rattle.measures.proofs.Along.{marks, so_far}
+use Rattle.measures.proofs.Along.{marks, at_step, at_close}
 use Rattle.measures.proofs.Marks.{Keeping, kept_along, Rises, marks_are, in_order}
 use Rattle.measures.proofs.Moments.{weighed, same_sums, counts_on, counts_past, counts_cut, weighed_fits}
 
@@ -196,9 +196,7 @@ module _ (S : ℕ) where
       }
 
   pub room_to_step : (t : List ℕ) (s : OwnRecord) → MayStep (red_light S) t s → Room (unlisted t)
-  unfolding MayStep
-  room_to_step t s (c, e, a) = subst (λ l. Room (unlisted l)) (sym e) (room c (so_far (red_light S) c s a))
+  room_to_step = at_step (red_light S) (λ l. Room (unlisted l)) room
 
   pub room_to_close : (t : List ℕ) (e : ℕ) → MayClose (red_light S) t e → Room (unlisted t)
-  unfolding MayClose
-  room_to_close t e (c, q, w) = subst (λ l. Room (unlisted l)) (sym q) (room c w.admissible)
+  room_to_close = at_close (red_light S) (λ l. Room (unlisted l)) room

@@ -1,53 +1,58 @@
 -- What a set of channels holds once it was changed.
-use Rattle.std.proofs.Common.{◌≡◌, ℕ, zero, suc, ◌+◌, ◌-◌, ◌*◌, ◌/◌, ◌%◌, ◌^◌, ◌<◌, ◌≤◌, Bool, true, false, cond, ◌&&◌, ◌||◌, eqb, sym, refl, ap, ◌∙◌, subst, ⊎_elim, zero-mul, arith}
-use lib.Bits.{bit_or, bit_xor}
-use Rattle.std.proofs.lemmas.Nat.{or_shr, or_mod, xor_shr, xor_mod, shl-shr, pow-add, pow_below, shr_below, shr_split, mod_below, pow_pos}
-use Rattle.std.proofs.lemmas.Bool.{cases_order, eq-eqb, ne_eqb, cases_eq, or_parts, or_from}
+use Rattle.std.proofs.Common.{◌≡◌, ℕ, zero, suc, ◌-◌, ◌/◌, ◌%◌, ◌^◌, ◌<◌, ◌≤◌, Bool, true, false, cond, ◌&&◌, ◌||◌, not, eqb, sym, ap, refl, ◌∙◌, subst, ⊎_elim, arith}
+use lib.Bits.{bit_and, bit_or, bit_xor}
+use Rattle.std.proofs.lemmas.Nat.{and_mask, and_comm, and-not, pow_below, mod_below, pow_pos}
+use Rattle.std.proofs.lemmas.Nat.Bits.{bit_at_or, bit_at_xor, bit_at-pow_same, bit_at-pow_other, bit_at-lt, bit_at-zero, and_pow, same_from_bits_below}
+use Rattle.std.specs.Int.{bit_at}
+use Rattle.std.specs.Int.Bits.{and_zero_r, or_zero_r, xor_add_and}
+use Rattle.std.proofs.lemmas.Bool.{true≢false, eq-eqb, ne_eqb, cases_eq, or_parts, or_from}
 use Rattle.std.proofs.lemmas.Bool.Decides.{nat_tests}
 use Rattle.controller_log.specs.Limits.{channels}
-use Rattle.measures.specs.Channels.{channel, holds, entered, removed, one_upto, some_channel}
+use Rattle.measures.specs.Channels.{channel, bit, holds, entered, removed, one_upto, some_channel}
 use Rattle.measures.specs.Records.{activation, of_channel, changed}
 use Rattle.measures.specs.declared.own.OwnRecord.{OwnRecord}
 
--- the bits of a power of two
-pow_bit : (i j : ℕ) → 2 ^ j / 2 ^ i % 2 ≡ cond (eqb i j) 1 0
-pow_bit i j = ⊎_elim
-    (λ (e : i ≡ j).
-    let s = shl-shr 1 i in
-    let o : 1 * 2 ^ i ≡ 2 ^ i = omega arith in
-    rw (eq-eqb i j e, ← e) (ap (λ x. x / 2 ^ i % 2) (sym o) ∙ ap (λ x. x % 2) s))
-    (⊎_elim
-    (λ (l : i < j).
-    let d : j ≡ 1 + (j - i - 1) + i = omega arith in
-    let p : 2 ^ j ≡ 2 ^ (1 + (j - i - 1)) * 2 ^ i = ap (λ x. 2 ^ x) d ∙ pow-add 2 (1 + (j - i - 1)) i in
-    let q = pow-add 2 1 (j - i - 1) in
-    rw (ne_eqb i j (λ e. omega arith), p, shl-shr (2 ^ (1 + (j - i - 1))) i, q) (omega arith))
-    (λ (g : j < i).
-    let p = pow_below j i g in
-    let z : 2 ^ j / 2 ^ i < 1 = shr_below (2 ^ j) 0 i (let o : 0 + i ≡ i = omega arith in rw o p) in
-    let w : 2 ^ j / 2 ^ i ≡ 0 = omega arith in
-    rw (ne_eqb i j (λ e. omega arith), w)))
-    (cases_order i j)
+-- the bits of a power of two, and of a number with one bit more or less
+pow_bit : (i j : ℕ) → bit_at (2 ^ j) i ≡ cond (eqb i j) 1 0
+pow_bit i j = grind (arith, nat_tests, bit_at-pow_same, bit_at-pow_other)
 
-or_bit : (x : ℕ) (b : Bool) → x < 2 → bit_or x (cond b 1 0) ≡ cond b 1 x
-or_bit zero b h = elim b as (λ b. bit_or 0 (cond b 1 0) ≡ cond b 1 0) [ true ↦ refl | false ↦ refl ]
-or_bit (suc zero) b h = elim b as (λ b. bit_or 1 (cond b 1 0) ≡ cond b 1 1) [ true ↦ refl | false ↦ refl ]
-or_bit (suc (suc n)) b h = absurd (omega arith)
+bit_of_or : (q i j : ℕ) → bit_at (bit_or q (2 ^ j)) i ≡ cond (eqb i j) 1 (bit_at q i)
+bit_of_or q i j = grind (arith, nat_tests, bit_at_or q (2 ^ j) i, pow_bit i j, bit_at-lt q i)
 
-xor_bit : (x : ℕ) (b : Bool) → x < 2 → bit_xor x (cond b 1 0) ≡ cond b (1 - x) x
-xor_bit zero b h = elim b as (λ b. bit_xor 0 (cond b 1 0) ≡ cond b (1 - 0) 0) [ true ↦ refl | false ↦ refl ]
-xor_bit (suc zero) b h = elim b as (λ b. bit_xor 1 (cond b 1 0) ≡ cond b (1 - 1) 1) [ true ↦ refl | false ↦ refl ]
-xor_bit (suc (suc n)) b h = absurd (omega arith)
+bit_of_xor : (q i j : ℕ) → bit_at (bit_xor q (2 ^ j)) i ≡ cond (eqb i j) (1 - bit_at q i) (bit_at q i)
+bit_of_xor q i j = grind (arith, nat_tests, bit_at_xor q (2 ^ j) i, pow_bit i j, bit_at-lt q i)
 
-bit_of_or : (q i j : ℕ) → bit_or q (2 ^ j) / 2 ^ i % 2 ≡ cond (eqb i j) 1 (q / 2 ^ i % 2)
-bit_of_or q i j =
-    ap (λ x. x % 2) (or_shr q (2 ^ j) i) ∙ or_mod (q / 2 ^ i) (2 ^ j / 2 ^ i) 1
-    ∙ ap (λ x. bit_or (q / 2 ^ i % 2) x) (pow_bit i j) ∙ or_bit (q / 2 ^ i % 2) (eqb i j) (mod_below (q / 2 ^ i) 2 (omega arith))
+-- a channel's bit is tested, set and cleared
+pub bit_tested : (q c : ℕ) → not (eqb (bit_and q (bit c)) 0) ≡ holds q c
+unfolding holds
+bit_tested q c =
+    let a = and_pow q (c - 1) in
+    let p = pow_pos (c - 1) in
+    let l = bit_at-lt q (c - 1) in
+    let z = and_zero_r q in
+    grind (arith, nat_tests)
 
-bit_of_xor : (q i j : ℕ) → bit_xor q (2 ^ j) / 2 ^ i % 2 ≡ cond (eqb i j) (1 - q / 2 ^ i % 2) (q / 2 ^ i % 2)
-bit_of_xor q i j =
-    ap (λ x. x % 2) (xor_shr q (2 ^ j) i) ∙ xor_mod (q / 2 ^ i) (2 ^ j / 2 ^ i) 1
-    ∙ ap (λ x. bit_xor (q / 2 ^ i % 2) x) (pow_bit i j) ∙ xor_bit (q / 2 ^ i % 2) (eqb i j) (mod_below (q / 2 ^ i) 2 (omega arith))
+pub bit_set : (q c : ℕ) → bit_or q (bit c) ≡ entered q c
+unfolding entered
+bit_set q c = elim (channel c) as (λ v. bit_or q (cond v (2 ^ (c - 1)) 0) ≡ cond v (bit_or q (2 ^ (c - 1))) q) [ true ↦ refl | false ↦ or_zero_r q ]
+
+pub bit_cleared : (q c : ℕ) → q < 2 ^ 64 → bit_and q (2 ^ 64 - 1 - bit c) ≡ removed q c
+unfolding holds removed
+bit_cleared q c l = by (channel c) refl (holds q c) refl
+  where
+    by : (v : Bool) → channel c ≡ v → (h : Bool) → holds q c ≡ h → bit_and q (2 ^ 64 - 1 - cond v (2 ^ (c - 1)) 0) ≡ cond h (bit_xor q (2 ^ (c - 1))) q
+    by true e true k =
+        let b : bit_at q (c - 1) ≡ 1 = grind (arith, nat_tests) in
+        let a : bit_and q (2 ^ (c - 1)) ≡ 2 ^ (c - 1) = rw (and_pow q (c - 1), b) (omega arith) in
+        let p : 2 ^ (c - 1) < 2 ^ 64 = pow_below (c - 1) 64 (grind (arith, nat_tests)) in
+        omega (arith, a, and-not 64 (2 ^ (c - 1)) q p l, and_comm q (2 ^ 64 - 1 - 2 ^ (c - 1)), and_comm (2 ^ (c - 1)) q, xor_add_and q (2 ^ (c - 1)))
+    by true e false k =
+        let b : bit_at q (c - 1) ≡ 0 = (let t = bit_at-lt q (c - 1) in grind (arith, nat_tests)) in
+        let a : bit_and q (2 ^ (c - 1)) ≡ 0 = rw (and_pow q (c - 1), b) (omega arith) in
+        let p : 2 ^ (c - 1) < 2 ^ 64 = pow_below (c - 1) 64 (grind (arith, nat_tests)) in
+        omega (arith, a, and-not 64 (2 ^ (c - 1)) q p l, and_comm q (2 ^ 64 - 1 - 2 ^ (c - 1)), and_comm (2 ^ (c - 1)) q)
+    by false e true k = absurd (grind (arith, nat_tests))
+    by false e false k = and_mask q 64 ∙ omega arith
 
 -- a channel that enters is in the set, and the others stay
 pub holds_entered : (q c d : ℕ) → channel d ≡ true → holds (entered q c) d ≡ (eqb c d || holds q d)
@@ -88,22 +93,7 @@ holds_changed q s d h =
 
 pub holds_none : (d : ℕ) → holds 0 d ≡ false
 unfolding holds
-holds_none d =
-    let z : 0 / 2 ^ (d - 1) ≡ 0 = (let s = shr_below 0 0 (d - 1) (pow_pos (0 + (d - 1))) in omega arith) in
-    rw z (grind (arith, nat_tests))
-
--- a number below 2^n with no bit is 0
-no_bits : (n q : ℕ) → q < 2 ^ n → ((i : ℕ) → i < n → q / 2 ^ i % 2 ≡ 0) → q ≡ 0
-no_bits zero q l h = omega arith
-no_bits (suc n) q l h =
-    let p : 2 ^ suc n ≡ 2 ^ (1 + n) = ap (λ k. 2 ^ k) (omega arith) in
-    let top = shr_below q 1 n (subst (λ k. q < k) p l) in
-    let bit = h n (omega arith) in
-    let high : q / 2 ^ n ≡ 0 = omega arith in
-    let split = shr_split q n in
-    let low = mod_below q (2 ^ n) (pow_pos n) in
-    let none : q / 2 ^ n * 2 ^ n ≡ 0 = ap (λ k. k * 2 ^ n) high ∙ zero-mul (2 ^ n) in
-    no_bits n q (omega arith) (λ i k. h i (omega arith))
+holds_none d = rw (bit_at-zero (d - 1)) (grind (arith, nat_tests))
 
 none_upto : (p : ℕ → Bool) (n : ℕ) → one_upto p n ≡ false → (i : ℕ) → i < n → p (suc i) ≡ false
 none_upto p zero e i l = absurd (omega arith)
@@ -116,19 +106,27 @@ all_none p zero h = refl
 all_none p (suc n) h = or_from (p (suc n)) (one_upto p n) (h (suc n)) (all_none p n h)
 
 -- the empty set, and no other, holds no channel
-pub some_of_none : some_channel (holds 0) ≡ false
+some_of_none : some_channel (holds 0) ≡ false
 unfolding some_channel
 some_of_none = all_none (holds 0) channels holds_none
 
-pub none_of_some : (q : ℕ) → q < 2 ^ 64 → some_channel (holds q) ≡ false → q ≡ 0
+none_of_some : (q : ℕ) → q < 2 ^ 64 → some_channel (holds q) ≡ false → q ≡ 0
 unfolding some_channel holds
 none_of_some q l e =
-    no_bits 64 q l (λ i k.
+    same_from_bits_below 64 q 0 l (omega arith) (λ i k.
     let n = none_upto (holds q) channels e i k in
-    let m = mod_below (q / 2 ^ i) 2 (omega arith) in
+    let m = bit_at-lt q i in
     let s : suc i - 1 ≡ i = omega arith in
-    let h : channel (suc i) && eqb (q / 2 ^ i % 2) 1 ≡ false = subst (λ j. channel (suc i) && eqb (q / 2 ^ j % 2) 1 ≡ false) s n in
-    grind (arith, nat_tests))
+    let h : channel (suc i) && eqb (bit_at q i) 1 ≡ false = subst (λ j. channel (suc i) && eqb (bit_at q j) 1 ≡ false) s n in
+    let b : bit_at q i ≡ 0 = grind (arith, nat_tests) in
+    b ∙ sym (bit_at-zero i))
+
+pub empty_is_none : (q : ℕ) → q < 2 ^ 64 → eqb q 0 ≡ not (some_channel (holds q))
+empty_is_none q l = by (some_channel (holds q)) refl
+  where
+    by : (b : Bool) → some_channel (holds q) ≡ b → eqb q 0 ≡ not b
+    by true e = ne_eqb q 0 (λ z. let t = sym e ∙ ap (λ k. some_channel (holds k)) z ∙ some_of_none in absurd (true≢false t))
+    by false e = eq-eqb q 0 (none_of_some q l e)
 
 -- tests that agree on channels
 one_same : (p r : ℕ → Bool) (n : ℕ) → ((i : ℕ) → 1 ≤ i → i ≤ n → p i ≡ r i) → one_upto p n ≡ one_upto r n

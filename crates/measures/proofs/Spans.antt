@@ -1,6 +1,7 @@
 -- Tenths counted one by one, and how those with an occupied channel grow from record to record.
 use Rattle.std.proofs.Common.{◌≡◌, ℕ, zero, suc, ◌+◌, ◌-◌, ◌<◌, ◌≤◌, min, Bool, true, false, cond, leb, List, [], ◌∷◌, ◌++◌, refl, ap, ◌∙◌, ⊎_elim, add-zero, add-suc, arith}
 use Rattle.std.specs.List.{AllByRecursion}
+use Rattle.std.proofs.ByRecursion.{All-weaker}
 use Rattle.std.proofs.lemmas.List.Elements.{filter-append}
 use Rattle.std.proofs.lemmas.List.{append-nil}
 use Rattle.std.proofs.lemmas.Bool.{le-leb, lt-leb, cases_lt}
@@ -8,6 +9,7 @@ use Rattle.measures.specs.Channels.{some_channel}
 use Rattle.measures.specs.Records.{occupied_after}
 use Rattle.measures.specs.SplitFailures.{upto, occupied_at, tenths}
 use Rattle.measures.specs.declared.own.OwnRecord.{OwnRecord}
+use Rattle.measures.proofs.Along.{all_pass}
 
 -- the tenths from a on and before b that pass a test
 abbrev pub span : (ℕ → Bool) → ℕ → ℕ → ℕ
@@ -57,18 +59,12 @@ span_before q xs s a b l =
     ap (λ ys. some_channel (occupied_after q ys))
     (filter-append (λ s. leb s.adjusted i) xs (s ∷ []) ∙ ap (λ v. upto i xs ++ cond v (s ∷ []) []) (lt-leb s.adjusted i (omega arith)) ∙ append-nil (upto i xs)))
 
-all_upto : (t : ℕ) (xs : List OwnRecord) → AllByRecursion (λ s. s.adjusted ≤ t) xs → upto t xs ≡ xs
-all_upto t [] h = refl
-all_upto t (s ∷ xs) h = rw (le-leb s.adjusted t h.0) (ap (λ l. s ∷ l) (all_upto t xs h.1))
-
 -- from the latest record on, channels stay as they are
 settled : (q : ℕ) (xs : List OwnRecord) (last t : ℕ) → AllByRecursion (λ s. s.adjusted ≤ last) xs → last ≤ t → occupied_at q xs t ≡ some_channel (occupied_after q xs)
 unfolding occupied_at
-settled q xs last t h l = ap (λ ys. some_channel (occupied_after q ys)) (all_upto t xs (raise xs h))
-  where
-    raise : (xs : List OwnRecord) → AllByRecursion (λ s. s.adjusted ≤ last) xs → AllByRecursion (λ s. s.adjusted ≤ t) xs
-    raise [] h = tt
-    raise (x ∷ xs) h = (let k = h.0 in omega arith, raise xs h.1)
+settled q xs last t h l =
+    ap (λ ys. some_channel (occupied_after q ys))
+    (all_pass (λ s. leb s.adjusted t) xs (All-weaker (λ s. s.adjusted ≤ last) (λ s. leb s.adjusted t ≡ true) (λ s k. le-leb s.adjusted t (omega arith)) xs h))
 
 module _ (q : ℕ) (xs : List OwnRecord) (last : ℕ) (h : AllByRecursion (λ s. s.adjusted ≤ last) xs) where
   pub span_on : (a b : ℕ) → a ≤ last → last ≤ b → span (occupied_at q xs) a b ≡ span (occupied_at q xs) a last + cond (some_channel (occupied_after q xs)) (b - last) 0

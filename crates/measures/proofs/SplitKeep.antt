@@ -11,7 +11,7 @@ use Rattle.measures.specs.Records.{among, activation, of_channel, occupied_after
 use Rattle.measures.specs.SplitFailures.{occupied_at, before_code, causes, first_cause, Tally, unlisted, first, green_until, red_until, next, figures, split_failures, split_lawful, yellow_at, red_at, SplitFigures}
 use Rattle.measures.specs.declared.interval.Interval.TheVariants.{Green, Yellow, Red}
 use Rattle.measures.specs.declared.own.OwnRecord.{OwnRecord}
-use Rattle.measures.proofs.Along.{marks, Next, so_far, all_pop}
+use Rattle.measures.proofs.Along.{marks, Next, all_pop, at_step, at_close}
 use Rattle.measures.proofs.Handing.{occupied_push}
 use Rattle.measures.proofs.Marks.{kept_along, Rises, marks_are, in_order}
 use Rattle.measures.proofs.Sets.{holds_changed, some_same}
@@ -204,9 +204,7 @@ room : (c : Calls) → Admissible split_failures c → Room (unlisted (tallied s
 room c a = room_by c (marks split_failures c.between) (unlisted (tallied split_failures c)) (keeps c a)
 
 pub room_to_step : (t : List ℕ) (s : OwnRecord) → MayStep split_failures t s → Room (unlisted t)
-unfolding MayStep
-room_to_step t s (c, e, a) = subst (λ l. Room (unlisted l)) (sym e) (room c (so_far split_failures c s a))
+room_to_step = at_step split_failures (λ l. Room (unlisted l)) room
 
 pub room_to_close : (t : List ℕ) (e : ℕ) → MayClose split_failures t e → Room (unlisted t)
-unfolding MayClose
-room_to_close t e (c, q, w) = subst (λ l. Room (unlisted l)) (sym q) (room c w.admissible)
+room_to_close = at_close split_failures (λ l. Room (unlisted l)) room

@@ -7,6 +7,10 @@ use Rattle.controller_log.specs.Limits.{channels}
 abbrev pub channel : ℕ → Bool
 channel c = within 1 channels c
 
+-- the bit of a channel, or 0
+abbrev pub bit : ℕ → ℕ
+bit c = cond (channel c) (2 ^ (c - 1)) 0
+
 -- a channel is in the set
 unfoldable pub holds : ℕ → ℕ → Bool
 holds q c = channel c && q / 2 ^ (c - 1) % 2 == 1

@@ -27,10 +27,12 @@ pub record Debounces (m : Meaning) (c : Calls) (set : ℕ) (below : List ℕ) : 
   pub on : (d : ℕ) → channel d ≡ true → holds set d ≡ occupied_after c.occupied c.between d
   pub handed : below ≡ tallied m (handed_down c)
 
--- what is answered for a whole cycle: the figures of the measure below, over the records handed down, which are a whole cycle for it
-pub record DebouncedFigures (m : Meaning) (c : Calls) (e : ℕ) (r : List ℕ) : Type 0 where
+-- what is answered for a whole cycle: the figures of the measure below, over the records handed down, which are a whole cycle for it,
+-- and what these are in words
+pub record DebouncedFigures (m : Meaning) (words : Calls → ℕ → List ℕ → Type 0) (c : Calls) (e : ℕ) (r : List ℕ) : Type 0 where
   pub whole_below : Whole m (handed_down c) e
   pub figures_are : r ≡ m.closed (tallied m (handed_down c)) e
+  pub words_below : words (handed_down c) e r
 
 -- the first number of a tally, and those behind it
 abbrev pub front : List ℕ → ℕ
@@ -69,12 +71,8 @@ abbrev pub meant : {M S : Type 0} → Ghosts M S → Debounced M S → Meaning
 meant g s = g.meaning (g.settings s.below)
 
 abbrev pub tally : {M S : Type 0} → Ghosts M S → Debounced M S → List ℕ
-tally g s = s.on.mask ∷ g.tally s.below
+tally g s = s.on ∷ g.tally s.below
 
 -- a step of the layer: whichever calls led to its tally, it comes to what these and the step should come to
 abbrev pub Steps : {M S : Type 0} → Ghosts M S → Debounced M S → OwnRecord → Debounced M S → Type 0
-Steps g s own s' = (c : Calls) → Admissible (debounced (meant g s)) (c ▹ own) → tally g s ≡ tallied (debounced (meant g s)) c → Debounces (meant g s) (c ▹ own) s'.on.mask (g.tally s'.below)
-
--- a close of the layer answers the figures of the whole cycle
-abbrev pub ClosesWhole : {M S : Type 0} → Ghosts M S → Debounced M S → ℕ → List ℕ → Type 0
-ClosesWhole g s e r = (c : Calls) → Whole (debounced (meant g s)) c e → tally g s ≡ tallied (debounced (meant g s)) c → DebouncedFigures (meant g s) c e r
+Steps g s own s' = (c : Calls) → Admissible (debounced (meant g s)) (c ▹ own) → tally g s ≡ tallied (debounced (meant g s)) c → Debounces (meant g s) (c ▹ own) s'.on (g.tally s'.below)

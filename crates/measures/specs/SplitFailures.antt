@@ -1,8 +1,9 @@
 -- The split-failure measure: its figures in words, and its tally step by step.
-use Rattle.std.specs.Prelude.{◌≡◌, ℕ, zero, suc, ◌+◌, ◌-◌, ◌*◌, ◌≤◌, min, Bool, true, false, cond, ◌&&◌, nat_le, List, [], ◌∷◌, map, pos, filter, ◌==◌, slice_index, refl}
+use Rattle.std.specs.Prelude.{◌≡◌, ℕ, zero, suc, ◌+◌, ◌-◌, ◌*◌, ◌≤◌, min, Bool, true, false, cond, ◌&&◌, nat_le, List, [], ◌∷◌, map, Some, None, Option, pos, filter, ◌==◌, slice_index, refl}
 use Rattle.std.proofs.Common.{arith}
 use Rattle.std.proofs.lemmas.Int.{ints}
 use Rattle.controller_log.specs.Events.{code_of}
+use Rattle.controller_log.specs.declared.event.Event.{Event}
 use Rattle.controller_log.specs.declared.event.Event.TheVariants.{GreenBegins, GapOut, MaxOut, ForceOff, YellowBegins, YellowEnds}
 use Rattle.measures.specs.Channels.{holds, some_channel}
 use Rattle.measures.specs.Intervals.{shown}
@@ -89,8 +90,13 @@ pub record Tally : Type 0 where
 abbrev pub listed : Tally → List ℕ
 listed t = t.shows ∷ t.opened ∷ t.yellow ∷ t.red ∷ t.last ∷ t.occupied ∷ t.green_occupied ∷ t.red_occupied ∷ t.cause ∷ []
 
+-- the code of a cause, or 0
+abbrev pub cause_number : Option Event → ℕ
+cause_number None = 0
+cause_number (Some e) = code_of e
+
 abbrev pub kept : SplitFailures → Tally
-kept s = record { shows = shown s.shows; opened = s.opened; yellow = s.yellow; red = s.red; last = s.last; occupied = s.occupied.mask; green_occupied = s.green_occupied; red_occupied = s.red_occupied; cause = s.cause }
+kept s = record { shows = shown s.shows; opened = s.opened; yellow = s.yellow; red = s.red; last = s.last; occupied = s.occupied; green_occupied = s.green_occupied; red_occupied = s.red_occupied; cause = cause_number s.cause }
 
 abbrev pub tally : SplitFailures → List ℕ
 tally s = listed (kept s)
@@ -101,12 +107,16 @@ unlisted l = record { shows = slice_index l 0; opened = slice_index l 1; yellow 
 abbrev pub first : ℕ → ℕ → Tally
 first o q = record { shows = shown Green; opened = o; yellow = 0; red = 0; last = o; occupied = q; green_occupied = 0; red_occupied = 0; cause = 0 }
 
+-- the occupied tenths from the latest record up to an end, if the signal shows an interval
+abbrev pub occupied_in : Tally → ℕ → ℕ → ℕ
+occupied_in t n b = cond (t.shows == n && some_channel (holds t.occupied)) (b - t.last) 0
+
 -- the occupied tenths of green, and of the red window, up to a moment
 abbrev pub green_until : Tally → ℕ → ℕ
-green_until t a = t.green_occupied + cond (t.shows == shown Green && some_channel (holds t.occupied)) (a - t.last) 0
+green_until t a = t.green_occupied + occupied_in t (shown Green) a
 
 abbrev pub red_until : Tally → ℕ → ℕ
-red_until t a = t.red_occupied + cond (t.shows == shown Red && some_channel (holds t.occupied)) (min (t.red + red_window) a - t.last) 0
+red_until t a = t.red_occupied + occupied_in t (shown Red) (min (t.red + red_window) a)
 
 -- the cause with one more code
 abbrev pub cause_after : Tally → ℕ → ℕ

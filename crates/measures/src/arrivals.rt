@@ -1,21 +1,22 @@
 // Arrivals on red, green and yellow, and how long those on red wait for the green.
 // A cycle runs from one end of yellow to the next: red, green, yellow.
-ghost use Rattle.std.specs.Prelude.{◌≡◌};
+ghost use Rattle.std.specs.Prelude.{◌≡◌, refl};
+ghost use Rattle.controller_log.specs.declared.event.Event.TheVariants.{YellowEnds};
 ghost use Rattle.measures.specs.Arrivals.{arrivals, arrivals_lawful, ArrivalFigures, tally, listed, first};
-ghost use Rattle.measures.specs.Meanings.{Calls, Whole, tallied, MayClose, Answers};
 
 use crate::channels::ChannelSet;
 use crate::interval::Interval;
 use crate::limits::FIGURES;
 use crate::measure::{Measure, NoSettings};
 use crate::own::OwnRecord;
-use controller_log::codes::{DETECTOR_ON, GREEN_BEGINS, YELLOW_BEGINS, YELLOW_ENDS};
 use controller_log::detector::{DetectorRow, Uses};
+use controller_log::event::Event;
 
 #[derive(Drop)]
 pub struct Arrivals {
     shows: Interval,
     opened: u32,
+    // Each 0 until it begins: close may come at any time, and would read a None as 0.
     green: u32,
     yellow: u32,
     on_red: u64,
@@ -40,32 +41,16 @@ impl Arrivals {
             red_times: 0,
         }
     }
-
-    fn figures(&self, moment: u32) -> [u64; FIGURES]
-        ensures { MayClose arrivals (tally self.now) moment → Answers arrivals (tally self.now) moment result }
-    {
-        let red = u64::from(self.green.saturating_sub(self.opened));
-        [
-            red,
-            u64::from(self.yellow.saturating_sub(self.green)),
-            u64::from(moment.saturating_sub(self.yellow)),
-            self.on_red,
-            self.on_green,
-            self.on_yellow,
-            self.on_red
-                .saturating_mul(red)
-                .saturating_sub(self.red_times),
-            0,
-        ]
-    }
 }
 
 impl Measure for Arrivals {
     type Settings = NoSettings;
 
-    const OPENING: u8 = YELLOW_ENDS;
+    const OPENING: Event = Event::YellowEnds;
 
-    const FURTHER: &'static [u8] = &[GREEN_BEGINS, YELLOW_BEGINS];
+    ghost OPENING = { YellowEnds };
+
+    const FURTHER: &'static [Event] = &[Event::GreenBegins, Event::YellowBegins];
 
     ghost settings = { λ _. record {} };
 
@@ -73,26 +58,22 @@ impl Measure for Arrivals {
 
     ghost tally = { tally };
 
+    ghost words = { λ _. ArrivalFigures };
+
     ghost lawful = { λ _. arrivals_lawful };
+
+    ghost opens = { λ _. refl };
 
     fn new(chosen: NoSettings) -> Self {
         Arrivals::opened_at(0)
     }
 
-    fn opening_code() -> u8 {
-        Self::OPENING
-    }
-
-    fn further_codes() -> &'static [u8] {
+    fn further_codes() -> &'static [Event] {
         Self::FURTHER
     }
 
     fn uses(&self) -> Uses {
-        Uses {
-            arrivals: true,
-            presence: false,
-            red_light: false,
-        }
+        Uses::ARRIVALS
     }
 
     fn reads_presence(&self) -> bool {
@@ -107,21 +88,26 @@ impl Measure for Arrivals {
         *self = Arrivals::opened_at(moment);
     }
 
+    #[tactic(auto, using(crate::proofs::ArrivalsKeep::room_to_step))]
     fn step(&mut self, own: OwnRecord) {
-        match (own.code, self.shows) {
-            (DETECTOR_ON, Interval::Red) => {
+        match (own.event(), self.shows) {
+            (Some(Event::DetectorOn), Interval::Red) => {
                 self.on_red = self.on_red.saturating_add(1);
                 self.red_times = self
                     .red_times
                     .saturating_add(u64::from(own.adjusted.saturating_sub(self.opened)));
             }
-            (DETECTOR_ON, Interval::Green) => self.on_green = self.on_green.saturating_add(1),
-            (DETECTOR_ON, Interval::Yellow) => self.on_yellow = self.on_yellow.saturating_add(1),
-            (GREEN_BEGINS, _) => {
+            (Some(Event::DetectorOn), Interval::Green) => {
+                self.on_green = self.on_green.saturating_add(1);
+            }
+            (Some(Event::DetectorOn), Interval::Yellow) => {
+                self.on_yellow = self.on_yellow.saturating_add(1);
+            }
+            (Some(Event::GreenBegins), _) => {
                 self.shows = Interval::Green;
                 self.green = own.adjusted;
             }
-            (YELLOW_BEGINS, _) => {
+            (Some(Event::YellowBegins), _) => {
                 self.shows = Interval::Yellow;
                 self.yellow = own.adjusted;
             }
@@ -129,10 +115,19 @@ impl Measure for Arrivals {
         }
     }
 
-    fn close(&self, moment: u32) -> [u64; FIGURES]
-        ensures figures { MayClose arrivals (tally self.now) moment → Answers arrivals (tally self.now) moment result }
-        ensures whole_cycle { (c : Calls) → Whole arrivals c moment → tally self.now ≡ tallied arrivals c → ArrivalFigures c moment result }
-    {
-        self.figures(moment)
+    fn close(&self, moment: u32) -> [u64; FIGURES] {
+        let red = u64::from(self.green.saturating_sub(self.opened));
+        [
+            red,
+            u64::from(self.yellow.saturating_sub(self.green)),
+            u64::from(moment.saturating_sub(self.yellow)),
+            self.on_red,
+            self.on_green,
+            self.on_yellow,
+            self.on_red
+                .saturating_mul(red)
+                .saturating_sub(self.red_times),
+            0,
+        ]
     }
 }

@@ -16,7 +16,8 @@ pub fn figures_of_cycle<M: Measure>(
     closed: u32,
 ) -> [u64; FIGURES]
     ensures same { M.Measure.settings measure.new ≡ M.Measure.settings measure.old }
-    ensures figures { Whole (M.Measure.meaning (M.Measure.settings measure.old)) (calls opened occupied.mask between.now) closed → result ≡ (M.Measure.meaning (M.Measure.settings measure.old)).closed (tallied (M.Measure.meaning (M.Measure.settings measure.old)) (calls opened occupied.mask between.now)) closed }
+    ensures figures { Whole (M.Measure.meaning (M.Measure.settings measure.old)) (calls opened occupied between.now) closed → result ≡ (M.Measure.meaning (M.Measure.settings measure.old)).closed (tallied (M.Measure.meaning (M.Measure.settings measure.old)) (calls opened occupied between.now)) closed }
+    ensures words { Whole (M.Measure.meaning (M.Measure.settings measure.old)) (calls opened occupied between.now) closed → M.Measure.words (M.Measure.settings measure.old) (calls opened occupied between.now) closed result }
 {
     measure.open(opened, occupied);
     for own in between {

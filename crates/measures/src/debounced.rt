@@ -1,14 +1,14 @@
 // The debouncing layer: over any measure, it does not hand down an activation of a channel that is on already.
 ghost use Rattle.std.specs.Prelude.{◌≡◌};
-ghost use Rattle.measures.specs.Debouncing.{dropped, debounced, debounced_lawful, meant, tally, Steps, ClosesWhole};
-ghost use Rattle.measures.specs.Meanings.{MayStep, MayClose, Answers};
+ghost use Rattle.measures.specs.Debouncing.{dropped, debounced, debounced_lawful, DebouncedFigures, meant, tally, Steps};
+ghost use Rattle.measures.specs.Meanings.{MayStep};
 
 use crate::channels::ChannelSet;
 use crate::limits::FIGURES;
 use crate::measure::Measure;
 use crate::own::OwnRecord;
-use controller_log::codes::DETECTOR_ON;
 use controller_log::detector::{DetectorRow, Uses};
+use controller_log::event::Event;
 
 #[derive(Drop)]
 pub struct Debounced<M: Measure> {
@@ -20,7 +20,7 @@ pub struct Debounced<M: Measure> {
 impl<M: Measure> Debounced<M> {
     // The layer over a measure.
     pub fn over(below: M) -> Debounced<M>
-        ensures { (result.below ≡ below) × (result.on.mask ≡ 0) }
+        ensures { (result.below ≡ below) × (result.on ≡ 0) }
     {
         Debounced {
             on: ChannelSet::empty(),
@@ -30,18 +30,20 @@ impl<M: Measure> Debounced<M> {
 
     // Whether a record is an activation of a channel that is on already.
     fn repeats(&self, own: OwnRecord) -> bool
-        ensures { result ≡ dropped self.now.on.mask own }
+        ensures { result ≡ dropped self.now.on own }
     {
-        own.code == DETECTOR_ON && self.on.contains(own.parameter)
+        own.event() == Some(Event::DetectorOn) && self.on.contains(own.parameter)
     }
 }
 
 impl<M: Measure> Measure for Debounced<M> {
     type Settings = M::Settings;
 
-    const OPENING: u8 = M::OPENING;
+    const OPENING: Event = M::OPENING;
 
-    const FURTHER: &'static [u8] = M::FURTHER;
+    ghost OPENING = { M.Measure.OPENING };
+
+    const FURTHER: &'static [Event] = M::FURTHER;
 
     ghost settings = { λ s. M.Measure.settings s.below };
 
@@ -49,17 +51,17 @@ impl<M: Measure> Measure for Debounced<M> {
 
     ghost tally = { tally M.Measure };
 
+    ghost words = { λ s. DebouncedFigures (M.Measure.meaning s) (M.Measure.words s) };
+
     ghost lawful = { λ s. debounced_lawful (M.Measure.meaning s) (M.Measure.lawful s) };
+
+    ghost opens = { M.Measure.opens };
 
     fn new(chosen: M::Settings) -> Self {
         Debounced::over(M::new(chosen))
     }
 
-    fn opening_code() -> u8 {
-        M::opening_code()
-    }
-
-    fn further_codes() -> &'static [u8] {
+    fn further_codes() -> &'static [Event] {
         M::further_codes()
     }
 
@@ -92,10 +94,7 @@ impl<M: Measure> Measure for Debounced<M> {
         self.below.step(own);
     }
 
-    fn close(&self, moment: u32) -> [u64; FIGURES]
-        ensures figures { MayClose (debounced (meant M.Measure self.now)) (tally M.Measure self.now) moment → Answers (debounced (meant M.Measure self.now)) (tally M.Measure self.now) moment result }
-        ensures whole_cycle { ClosesWhole M.Measure self.now moment result }
-    {
+    fn close(&self, moment: u32) -> [u64; FIGURES] {
         self.below.close(moment)
     }
 }

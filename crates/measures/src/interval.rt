@@ -1,5 +1,5 @@
 // What a signal shows, as a measure follows it through a cycle.
-#[derive(Clone, Copy)]
+#[derive(Clone, Copy, PartialEq, Eq, Debug)]
 pub enum Interval {
     Green,
     Yellow,

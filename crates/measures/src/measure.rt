@@ -1,25 +1,31 @@
 // What every measure is to a watch: its cycle codes, what it takes from a detector table, and the calls of one cycle.
 // A watch opens a measure, steps it through the own records of the cycle and closes it; docs/ADDING_A_MEASURE.md tells more.
-ghost use Rattle.std.specs.Prelude.{◌≡◌, ℕ, List};
-ghost use Rattle.measures.specs.Meanings.{Meaning, Lawful, MayStep, MayClose, Answers};
+ghost use Rattle.std.specs.Prelude.{◌≡◌, ℕ, List, map};
+ghost use Rattle.controller_log.specs.Events.{code_of};
+ghost use Rattle.controller_log.specs.declared.event.Event.{Event};
+ghost use Rattle.measures.specs.Meanings.{Meaning, Calls, Whole, tallied, Lawful, MayStep, MayClose, Answers};
 
 use crate::channels::ChannelSet;
 use crate::limits::FIGURES;
 use crate::own::OwnRecord;
 use controller_log::detector::{DetectorRow, Uses};
+use controller_log::event::Event;
 
 // The settings of a measure that has none.
-#[derive(Clone, Copy)]
+#[derive(Clone, Copy, PartialEq, Eq, Debug)]
 pub struct NoSettings;
 
 pub trait Measure: Sized {
     // What the user chooses; no call changes it.
     type Settings;
 
-    // A cycle runs from one record with the opening code to the next.
-    const OPENING: u8;
-    // The codes that come between, once each and in this order.
-    const FURTHER: &'static [u8];
+    // A cycle runs from one record with the opening event to the next.
+    const OPENING: Event;
+
+    ghost OPENING: { Event };
+
+    // The events that come between, once each and in this order.
+    const FURTHER: &'static [Event];
 
     ghost settings: { Self → Self.Settings };
 
@@ -29,17 +35,26 @@ pub trait Measure: Sized {
     // What the measure keeps of a cycle.
     ghost tally: { Self → List ℕ };
 
+    // What is answered for the calls of a whole cycle, in words.
+    ghost words: { Self.Settings → Calls → ℕ → List ℕ → Type 0 };
+
     // The codes and shifts lie in their ranges.
     ghost lawful: { (s : Self.Settings) → Lawful (meaning s) };
+
+    ghost opens: { (s : Self.Settings) → code_of OPENING ≡ (meaning s).opening };
 
     fn new(chosen: Self::Settings) -> Self
         ensures { settings result ≡ chosen };
 
-    fn opening_code() -> u8
-        ensures { (s : Self.Settings) → result ≡ (meaning s).opening };
+    fn opening_code() -> Event
+        ensures { (s : Self.Settings) → code_of result ≡ (meaning s).opening }
+    {
+        Self::OPENING
+    }
 
-    fn further_codes() -> &'static [u8]
-        ensures { (s : Self.Settings) → result.now ≡ (meaning s).further };
+    // Each measure answers its constant itself: in a proof for any measure a constant that is a reference has no value.
+    fn further_codes() -> &'static [Event]
+        ensures { (s : Self.Settings) → map code_of result.now ≡ (meaning s).further };
 
     // The detector uses that it takes.
     fn uses(&self) -> Uses
@@ -55,12 +70,13 @@ pub trait Measure: Sized {
 
     fn open(&mut self, moment: u32, occupied: ChannelSet)
         ensures same { settings self.new ≡ settings self.old }
-        ensures after { tally self.new ≡ (meaning (settings self.old)).opened moment occupied.mask };
+        ensures after { tally self.new ≡ (meaning (settings self.old)).opened moment occupied };
 
     fn step(&mut self, own: OwnRecord)
         ensures same { settings self.new ≡ settings self.old }
         ensures after { MayStep (meaning (settings self.old)) (tally self.old) own → tally self.new ≡ (meaning (settings self.old)).stepped (tally self.old) own };
 
     fn close(&self, moment: u32) -> [u64; FIGURES]
-        ensures figures { MayClose (meaning (settings self.now)) (tally self.now) moment → Answers (meaning (settings self.now)) (tally self.now) moment result };
+        ensures figures { MayClose (meaning (settings self.now)) (tally self.now) moment → Answers (meaning (settings self.now)) (tally self.now) moment result }
+        ensures whole_cycle { (c : Calls) → Whole (meaning (settings self.now)) c moment → tally self.now ≡ tallied (meaning (settings self.now)) c → words (settings self.now) c moment result };
 }

@@ -1,24 +1,24 @@
 // Split failures: greens whose detectors stay occupied, and are occupied again right after red begins.
 // A cycle runs from one begin of green to the next: green, yellow, red.
-ghost use Rattle.std.specs.Prelude.{◌≡◌, ◌^◌, ◌≤◌};
+ghost use Rattle.std.specs.Prelude.{◌≡◌, refl, ◌^◌, ◌≤◌};
+ghost use Rattle.controller_log.specs.declared.event.Event.TheVariants.{GreenBegins};
+ghost use Rattle.measures.specs.Intervals.{shown};
 ghost use Rattle.measures.specs.Limits.{longest_cycle};
-ghost use Rattle.measures.specs.Meanings.{Calls, Whole, tallied, MayClose, Answers};
-ghost use Rattle.measures.specs.SplitFailures.{split_failures, split_lawful, SplitFigures, kept, tally, listed, first, failed, green_until, red_until, cause_after};
+ghost use Rattle.measures.specs.SplitFailures.{split_failures, split_lawful, SplitFigures, kept, tally, listed, first, failed, occupied_in, green_until, red_until, cause_number, cause_after};
 
 use crate::channels::ChannelSet;
 use crate::interval::Interval;
 use crate::limits::{FAILED_GREEN_PERCENT, FAILED_RED, FIGURES, RED_WINDOW};
 use crate::measure::{Measure, NoSettings};
 use crate::own::OwnRecord;
-use controller_log::codes::{
-    FORCE_OFF, GAP_OUT, GREEN_BEGINS, MAX_OUT, YELLOW_BEGINS, YELLOW_ENDS,
-};
 use controller_log::detector::{DetectorRow, Uses};
+use controller_log::event::Event;
 
 #[derive(Drop)]
 pub struct SplitFailures {
     shows: Interval,
     opened: u32,
+    // Each 0 until it begins: close may come at any time, and would read a None as 0.
     yellow: u32,
     red: u32,
     // The moment of the latest record; the tenths up to it are counted.
@@ -26,8 +26,8 @@ pub struct SplitFailures {
     occupied: ChannelSet,
     green_occupied: u64,
     red_occupied: u64,
-    // The code by which green ended, or 0.
-    cause: u8,
+    // Why green ended, if something said so.
+    cause: Option<Event>,
 }
 
 // Whether a split failed, by the length of green, its occupied tenths and those of the red window.
@@ -41,7 +41,7 @@ fn split_failed(green: u64, green_occupied: u64, red_occupied: u64) -> bool
 
 impl SplitFailures {
     fn opened_at(moment: u32, occupied: ChannelSet) -> SplitFailures
-        ensures { tally result ≡ listed (first moment occupied.mask) }
+        ensures { tally result ≡ listed (first moment occupied) }
     {
         SplitFailures {
             shows: Interval::Green,
@@ -52,7 +52,18 @@ impl SplitFailures {
             occupied,
             green_occupied: 0,
             red_occupied: 0,
-            cause: 0,
+            cause: None,
+        }
+    }
+
+    // The occupied tenths from the latest record up to an end, if the signal shows the interval.
+    fn occupied_in(&self, interval: Interval, end: u64) -> u64
+        ensures { result ≡ occupied_in (kept self.now) (shown interval) end }
+    {
+        if self.shows == interval && !self.occupied.is_empty() {
+            end.saturating_sub(u64::from(self.last))
+        } else {
+            0
         }
     }
 
@@ -60,63 +71,40 @@ impl SplitFailures {
     fn green_until(&self, moment: u32) -> u64
         ensures { self.now.green_occupied ≤ longest_cycle → result ≡ green_until (kept self.now) moment }
     {
-        match self.shows {
-            Interval::Green if !self.occupied.is_empty() => {
-                self.green_occupied
-                    .saturating_add(u64::from(moment.saturating_sub(self.last)))
-            }
-            _ => self.green_occupied,
-        }
+        self.green_occupied
+            .saturating_add(self.occupied_in(Interval::Green, u64::from(moment)))
     }
 
     // The occupied tenths of the red window up to a moment.
     fn red_until(&self, moment: u32) -> u64
         ensures { self.now.red_occupied ≤ longest_cycle → result ≡ red_until (kept self.now) moment }
     {
-        match self.shows {
-            Interval::Red if !self.occupied.is_empty() => {
-                let end = (u64::from(self.red) + u64::from(RED_WINDOW)).min(u64::from(moment));
-                self.red_occupied
-                    .saturating_add(end.saturating_sub(u64::from(self.last)))
-            }
-            _ => self.red_occupied,
-        }
+        let end = (u64::from(self.red) + u64::from(RED_WINDOW)).min(u64::from(moment));
+        self.red_occupied
+            .saturating_add(self.occupied_in(Interval::Red, end))
     }
 
-    // The cause with one more code: the first one counts.
-    fn cause_after(&self, code: u8) -> u8
-        ensures { result ≡ cause_after (kept self.now) code }
+    // The cause with one more record: the first one counts.
+    fn cause_after(&self, own: OwnRecord) -> Option<Event>
+        ensures { cause_number result ≡ cause_after (kept self.now) own.code }
     {
-        match (self.shows, self.cause, code) {
-            (Interval::Green, 0, GAP_OUT | MAX_OUT | FORCE_OFF) => code,
+        match (self.shows, own.event()) {
+            (Interval::Green, cause @ Some(Event::GapOut | Event::MaxOut | Event::ForceOff)) => {
+                self.cause.or(cause)
+            }
             _ => self.cause,
         }
-    }
-
-    fn figures(&self, moment: u32) -> [u64; FIGURES]
-        ensures { MayClose split_failures (tally self.now) moment → Answers split_failures (tally self.now) moment result }
-    {
-        let green = u64::from(self.yellow.saturating_sub(self.opened));
-        let red_occupied = self.red_until(moment);
-        [
-            green,
-            self.green_occupied,
-            red_occupied,
-            u64::from(self.cause),
-            u64::from(split_failed(green, self.green_occupied, red_occupied)),
-            0,
-            0,
-            0,
-        ]
     }
 }
 
 impl Measure for SplitFailures {
     type Settings = NoSettings;
 
-    const OPENING: u8 = GREEN_BEGINS;
+    const OPENING: Event = Event::GreenBegins;
 
-    const FURTHER: &'static [u8] = &[YELLOW_BEGINS, YELLOW_ENDS];
+    ghost OPENING = { GreenBegins };
+
+    const FURTHER: &'static [Event] = &[Event::YellowBegins, Event::YellowEnds];
 
     ghost settings = { λ _. record {} };
 
@@ -124,26 +112,22 @@ impl Measure for SplitFailures {
 
     ghost tally = { tally };
 
+    ghost words = { λ _. SplitFigures };
+
     ghost lawful = { λ _. split_lawful };
+
+    ghost opens = { λ _. refl };
 
     fn new(chosen: NoSettings) -> Self {
         SplitFailures::opened_at(0, ChannelSet::empty())
     }
 
-    fn opening_code() -> u8 {
-        Self::OPENING
-    }
-
-    fn further_codes() -> &'static [u8] {
+    fn further_codes() -> &'static [Event] {
         Self::FURTHER
     }
 
     fn uses(&self) -> Uses {
-        Uses {
-            arrivals: false,
-            presence: true,
-            red_light: false,
-        }
+        Uses::PRESENCE
     }
 
     fn reads_presence(&self) -> bool {
@@ -158,18 +142,19 @@ impl Measure for SplitFailures {
         *self = SplitFailures::opened_at(moment, occupied);
     }
 
+    #[tactic(auto, using(crate::proofs::SplitKeep::room_to_step))]
     fn step(&mut self, own: OwnRecord) {
         self.green_occupied = self.green_until(own.adjusted);
         self.red_occupied = self.red_until(own.adjusted);
-        self.cause = self.cause_after(own.code);
+        self.cause = self.cause_after(own);
         self.occupied = self.occupied.after(own);
         self.last = own.adjusted;
-        match own.code {
-            YELLOW_BEGINS => {
+        match own.event() {
+            Some(Event::YellowBegins) => {
                 self.shows = Interval::Yellow;
                 self.yellow = own.adjusted;
             }
-            YELLOW_ENDS => {
+            Some(Event::YellowEnds) => {
                 self.shows = Interval::Red;
                 self.red = own.adjusted;
             }
@@ -177,10 +162,18 @@ impl Measure for SplitFailures {
         }
     }
 
-    fn close(&self, moment: u32) -> [u64; FIGURES]
-        ensures figures { MayClose split_failures (tally self.now) moment → Answers split_failures (tally self.now) moment result }
-        ensures whole_cycle { (c : Calls) → Whole split_failures c moment → tally self.now ≡ tallied split_failures c → SplitFigures c moment result }
-    {
-        self.figures(moment)
+    fn close(&self, moment: u32) -> [u64; FIGURES] {
+        let green = u64::from(self.yellow.saturating_sub(self.opened));
+        let red_occupied = self.red_until(moment);
+        [
+            green,
+            self.green_occupied,
+            red_occupied,
+            self.cause.map_or(0, |event| u64::from(u8::from(event))),
+            u64::from(split_failed(green, self.green_occupied, red_occupied)),
+            0,
+            0,
+            0,
+        ]
     }
 }
