@@ -15,9 +15,6 @@ pieces_more bs some =
     let n : (length bs + 7) / 8 ≡ suc ((length (drop record_size bs) + 7) / 8) = omega arith in
     ap (λ k. cut k bs) n
 
-pub pieces_none : (bs : List ℕ) → length bs ≡ 0 → pieces bs ≡ []
-pieces_none bs none = let n : (length bs + 7) / 8 ≡ 0 = omega arith in ap (λ k. cut k bs) n
-
 pub pieces_whole : (bs x rest : List ℕ) → bs ≡ x ++ rest → length x ≡ record_size → pieces bs ≡ x ∷ pieces rest
 pieces_whole bs x rest e size =
     let long = ap length e ∙ length-append x rest in

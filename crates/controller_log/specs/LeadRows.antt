@@ -28,7 +28,7 @@ lead_row wanted t = first_row (rows_naming wanted t)
 abbrev pub NoneBelow : ℕ → Wanted → List (Option DetectorRow) → Type 0
 NoneBelow k wanted places = (j : ℕ) (d : DetectorRow) → j < k → slice_index_or places j None ≡ Some d → names wanted d ≡ false
 
--- the row of the lowest place that is wanted, or that no place does
+-- the row of the lowest place that is wanted, or that no place is
 abbrev pub Lowest : Wanted → List (Option DetectorRow) → Option DetectorRow → Type 0
 Lowest wanted places None = NoneBelow (length places) wanted places
 Lowest wanted places (Some d) = (k : ℕ) × (slice_index_or places k None ≡ Some d) × (names wanted d ≡ true) × NoneBelow k wanted places

@@ -22,20 +22,17 @@ impl Uses {
 
     pub const ARRIVALS: Uses = Uses {
         arrivals: true,
-        presence: false,
-        red_light: false,
+        ..Uses::NONE
     };
 
     pub const PRESENCE: Uses = Uses {
-        arrivals: false,
         presence: true,
-        red_light: false,
+        ..Uses::NONE
     };
 
     pub const RED_LIGHT: Uses = Uses {
-        arrivals: false,
-        presence: false,
         red_light: true,
+        ..Uses::NONE
     };
 
     // Whether some use is in both.
@@ -48,7 +45,7 @@ impl Uses {
     }
 }
 
-// A byte that adds up no uses.
+// A byte over 7, which is more than all uses add up to. A type of its own, as UnknownCode: an error says which byte it was.
 #[derive(Clone, Copy, PartialEq, Eq, Debug)]
 pub struct UnknownUses(pub u8);
 
@@ -103,7 +100,7 @@ pub struct Wanted {
 }
 
 // The row of one channel; the table's place says which channel. Travel and latency are in tenths of a second.
-// A channel and its row stay two values: whoever gets both takes them apart at once.
+// A channel and its row stay two values: a table keeps the row alone, at the channel's place.
 #[derive(Clone, Copy, PartialEq, Eq, Debug)]
 pub struct DetectorRow {
     pub phase: u8,
@@ -114,7 +111,7 @@ pub struct DetectorRow {
 
 impl DetectorRow {
     // The channel and the row in 8 bytes, or none where a value is out of range.
-    // A method: no TryFrom can be written for a pair.
+    // A method: no TryFrom can be written for a pair, which is no type of ours.
     pub fn read(bytes: &[u8]) -> Option<(u8, DetectorRow)>
         ensures value { result ≡ read_row bytes.now }
         ensures written_back { IfSome result (λ w. row_bytes w.0 w.1 ≡ bytes.now) }

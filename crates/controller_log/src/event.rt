@@ -17,7 +17,7 @@ pub enum Event {
     DetectorOn = 82,
 }
 
-// A code by which the engine knows no event.
+// A code by which the engine knows no event. A type of its own, as UnknownUses: an error says which byte it was.
 #[derive(Clone, Copy, PartialEq, Eq, Debug)]
 pub struct UnknownCode(pub u8);
 
@@ -26,6 +26,7 @@ impl TryFrom<u8> for Event {
 
     ghost try_from_gives = { Decodes };
 
+    // The numbers stand here again, since no pattern takes a discriminant; the contract keeps them equal.
     fn try_from(code: u8) -> Result<Event, UnknownCode> {
         match code {
             1 => Ok(Event::GreenBegins),

@@ -31,7 +31,8 @@ pub enum Refusal {
 }
 
 impl Refusal {
-    // The number by which every document and listing calls this refusal; a case may have a row besides.
+    // The number by which every document and listing calls this refusal.
+    // A method and no From, since it leaves out the row that some tell.
     pub fn number(&self) -> u8
         ensures { result ≡ (told self.now).number }
     {
@@ -60,7 +61,7 @@ impl Refusal {
         }
     }
 
-    // Without the row, which Display adds.
+    // Apart from Display, which adds the row that some tell.
     #[tactic(auto, unfolding(crate::specs::Refusals::words))]
     fn words(&self) -> &'static str
         ensures { result.now ≡ slice_index_or words (told self.now).number [] }

@@ -1,5 +1,5 @@
 // A detector table: a place for each of 64 channels, read from a file of 8-byte rows.
-ghost use Rattle.std.specs.Prelude.{◌≡◌, ◌+◌, ◌%◌, ◌^◌, ◌<◌, true, length};
+ghost use Rattle.std.specs.Prelude.{◌≡◌, ◌+◌, ◌%◌, ◌^◌, ◌<◌, true, length, IfOk};
 ghost use Rattle.controller_log.specs.Detectors.{within, read_row};
 ghost use Rattle.controller_log.specs.Limits.{channels, record_size};
 ghost use Rattle.controller_log.specs.LeadRows.{rows_naming, lead_row, Lowest};
@@ -13,8 +13,8 @@ use crate::limits::{MAX_TABLE_SIZE, RECORD_SIZE, TABLE_PLACES};
 use crate::refusal::Refusal;
 use std::marker::Model;
 
-// A place a channel, and no map of std: fixed memory, and a look-up in constant time.
-#[derive(Clone, Copy)]
+// One place for each channel, and no map: the memory is fixed, and a look-up takes constant time.
+#[derive(Clone, Copy, PartialEq, Eq, Debug)]
 pub struct DetectorTable {
     places: [Option<DetectorRow>; TABLE_PLACES],
 }
@@ -45,12 +45,15 @@ impl DetectorTable {
 
     // The row of a channel, if it has one.
     pub fn lookup(&self, channel: u8) -> Option<DetectorRow>
-        ensures { result ≡ lookup self.now channel }
+        ensures value { result ≡ lookup self.now channel }
+        ensures places { length self.now ≡ channels }
     {
+        let places = &self.places;
         let place = usize::from(channel).checked_sub(1)?;
-        self.places.get(place).copied().flatten()
+        places.get(place).copied().flatten()
     }
 
+    // The channel is the row's place.
     fn put(&mut self, channel: u8, row: DetectorRow)
         requires { within 1 channels channel ≡ true }
         ensures { self.new ≡ with_row self.old channel row }
@@ -82,10 +85,11 @@ impl DetectorTable {
     }
 
     // The table in a file of 8-byte rows, or the first refusal that meets it.
-    // A method: a TryFrom would say both its promises as one, without their names.
+    // A method: a TryFrom would say its promises as one, without their names.
     pub fn read(bytes: &[u8]) -> Result<DetectorTable, Refusal>
         ensures value { answer result ≡ read_table bytes.now }
         ensures rules { TableRules bytes.now (answer result) }
+        ensures places { IfOk result (λ t. length t ≡ channels) }
     {
         if bytes.len() % RECORD_SIZE != 0 || bytes.len() > MAX_TABLE_SIZE {
             return Err(Refusal::TableLength);

@@ -15,7 +15,7 @@ pub(crate) fn row(
     [channel, phase, uses, zero, t0, t1, l0, l1]
 }
 
-// The number of a refusal, if there is one.
+// The number of a refusal as listings print it, if there is one.
 pub(crate) fn refused<T: Drop>(answer: Result<T, Refusal>) -> Option<u8> {
     answer.err().map(|refusal| refusal.number())
 }

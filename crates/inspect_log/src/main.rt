@@ -7,19 +7,15 @@ use std::path::{Path, PathBuf};
 use std::{env, fs, io};
 
 fn main(rt: HostRuntime) -> anyhow::Result<()> {
-    run(&rt)
-}
-
-fn run(rt: &HostRuntime) -> anyhow::Result<()> {
-    let folder = input_folder(rt)?;
-    let table = read_or_empty(rt, &folder, "detectors.bin")?;
-    let log = read_or_empty(rt, &folder, "log.bin")?;
+    let folder = input_folder(&rt)?;
+    let table = read_or_empty(&rt, &folder, "detectors.bin")?;
+    let log = read_or_empty(&rt, &folder, "log.bin")?;
     let text = inspect(rt.alloc(), &table, &log)?;
     rt.print(text)?;
     Ok(())
 }
 
-// A match: the folder that is taken otherwise needs memory, and no shorter form lets a default fail.
+// A match: two closures without `?`, which `map_or_else` would need, are no plainer.
 fn input_folder(rt: &HostRuntime) -> io::Result<PathBuf> {
     match env::args(rt)?.nth(1) {
         Some(folder) => Ok(PathBuf::from(folder)),

@@ -49,7 +49,7 @@ impl Model for Listing {
 }
 
 impl Listing {
-    // The rows in the order of their channels, each told with its own; answers how many there are.
+    // The rows in the order of their channels; answers how many there are.
     fn add_table(&mut self, table: &DetectorTable) -> Result<usize, AllocError>
         ensures lines { OnOk result (self.new ≡ self.old ++ rows_text table.now channels) }
         ensures count { IfOk result (λ n. n ≡ rows_count table.now channels) }
@@ -65,6 +65,7 @@ impl Listing {
         Ok(rows)
     }
 
+    // The line of a channel's row, which stay two values as they are in a table.
     fn add_row(&mut self, channel: u8, row: DetectorRow) -> Result<(), AllocError>
         ensures { OnOk result (self.new ≡ self.old ++ row_line channel row) }
     {
@@ -84,7 +85,7 @@ impl Listing {
     fn add_log(&mut self, rows: usize, log: &[u8]) -> Result<(), AllocError>
         ensures { OnOk result (self.new ≡ self.old ++ log_text rows 0 (pieces log.now)) }
     {
-        // The last number is their count.
+        // The last number is their count; kept by hand, since the loop may end early.
         let mut records = 0;
         for (number, bytes) in LogReader::new(log) {
             match Record::read(bytes) {

@@ -17,7 +17,7 @@ use measures::own::OwnRecord;
 #[derive(Drop)]
 pub struct IntervalLengths {
     green: u32,
-    // Each 0 until it begins: close may come at any time, and would read a None as 0.
+    // These are 0 before they begin. An Option would only be turned into 0 again where `close` comes early.
     yellow: u32,
     clearance: u32,
     red: u32,

@@ -2,7 +2,18 @@
 use crate::cases::{cycle, off, on, phase};
 use controller_log::event::Event;
 use measures::measure::{Measure, NoSettings};
+use measures::own::OwnRecord;
 use measures::split_failures::SplitFailures;
+
+fn splits(opened: u32, occupied: &[u8], between: &[OwnRecord], closed: u32) -> [u64; 8] {
+    cycle(
+        SplitFailures::new(NoSettings),
+        opened,
+        occupied,
+        between,
+        closed,
+    )
+}
 
 #[test]
 fn a_failed_split(rt: HostRuntime) {
@@ -15,7 +26,7 @@ fn a_failed_split(rt: HostRuntime) {
         off(985, 9),
     ];
     assert_eq!(rt;
-        cycle(SplitFailures::new(NoSettings), 500, &[9], &between, 1500),
+        splits(500, &[9], &between, 1500),
         [400, 380, 45, 6, 1, 0, 0, 0]
     );
 }
@@ -29,7 +40,7 @@ fn occupied_for(green: u32, red: u32) -> [u64; 8] {
         on(1440, 9),
         off(1440u32.saturating_add(red), 9),
     ];
-    cycle(SplitFailures::new(NoSettings), 1000, &[9], &between, 2000)
+    splits(1000, &[9], &between, 2000)
 }
 
 #[test]
@@ -49,11 +60,11 @@ fn the_red_window_ends_after_50_tenths_or_at_the_close(rt: HostRuntime) {
         on(1450, 9),
     ];
     assert_eq!(rt;
-        cycle(SplitFailures::new(NoSettings), 1000, &[], &between, 1470),
+        splits(1000, &[], &between, 1470),
         [400, 0, 20, 0, 0, 0, 0, 0]
     );
     assert_eq!(rt;
-        cycle(SplitFailures::new(NoSettings), 1000, &[], &between, 1600),
+        splits(1000, &[], &between, 1600),
         [400, 0, 40, 0, 0, 0, 0, 0]
     );
 }
@@ -68,7 +79,7 @@ fn a_tenth_counts_once_however_many_channels_are_occupied(rt: HostRuntime) {
         phase(1440, Event::YellowEnds),
     ];
     assert_eq!(rt;
-        cycle(SplitFailures::new(NoSettings), 1000, &[9], &between, 2000),
+        splits(1000, &[9], &between, 2000),
         [400, 200, 0, 0, 0, 0, 0, 0]
     );
 }
@@ -80,11 +91,11 @@ fn channels_occupied_at_the_opening_count_from_there(rt: HostRuntime) {
         phase(1440, Event::YellowEnds),
     ];
     assert_eq!(rt;
-        cycle(SplitFailures::new(NoSettings), 1000, &[], &between, 2000),
+        splits(1000, &[], &between, 2000),
         [400, 0, 0, 0, 0, 0, 0, 0]
     );
     assert_eq!(rt;
-        cycle(SplitFailures::new(NoSettings), 1000, &[64], &between, 2000),
+        splits(1000, &[64], &between, 2000),
         [400, 400, 50, 0, 1, 0, 0, 0]
     );
 }
@@ -97,19 +108,13 @@ fn the_first_cause_before_yellow_counts(rt: HostRuntime) {
         phase(1400, Event::YellowBegins),
         phase(1440, Event::YellowEnds),
     ];
-    assert_eq!(rt;
-        cycle(SplitFailures::new(NoSettings), 1000, &[], &two, 2000),
-        [400, 0, 0, 4, 0, 0, 0, 0]
-    );
+    assert_eq!(rt; splits(1000, &[], &two, 2000), [400, 0, 0, 4, 0, 0, 0, 0]);
     let late = [
         phase(1400, Event::YellowBegins),
         phase(1400, Event::MaxOut),
         phase(1440, Event::YellowEnds),
     ];
-    assert_eq!(rt;
-        cycle(SplitFailures::new(NoSettings), 1000, &[], &late, 2000),
-        [400, 0, 0, 0, 0, 0, 0, 0]
-    );
+    assert_eq!(rt; splits(1000, &[], &late, 2000), [400, 0, 0, 0, 0, 0, 0, 0]);
 }
 
 #[test]
@@ -119,7 +124,7 @@ fn a_green_of_no_length_is_no_failure(rt: HostRuntime) {
         phase(1040, Event::YellowEnds),
     ];
     assert_eq!(rt;
-        cycle(SplitFailures::new(NoSettings), 1000, &[9], &between, 2000),
+        splits(1000, &[9], &between, 2000),
         [0, 0, 50, 0, 0, 0, 0, 0]
     );
 }

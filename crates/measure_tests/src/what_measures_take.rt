@@ -27,28 +27,21 @@ fn row(travel: u16, latency: u16) -> DetectorRow {
     }
 }
 
+fn have_codes(events: &[Event], codes: &[u8]) -> bool {
+    events
+        .iter()
+        .map(|event| u8::from(*event))
+        .eq(codes.iter().copied())
+}
+
 #[test]
 fn cycle_codes(rt: HostRuntime) {
-    assert_eq!(rt; Arrivals::opening_code() as u8, 9);
-    assert_eq!(rt;
-        Arrivals::further_codes(),
-        [Event::GreenBegins, Event::YellowBegins].as_slice()
-    );
-    assert_eq!(rt; SplitFailures::opening_code() as u8, 1);
-    assert_eq!(rt;
-        SplitFailures::further_codes(),
-        [Event::YellowBegins, Event::YellowEnds].as_slice()
-    );
-    assert_eq!(rt; RedLight::opening_code() as u8, 8);
-    assert_eq!(rt;
-        RedLight::further_codes(),
-        [
-            Event::YellowEnds,
-            Event::RedClearanceEnds,
-            Event::GreenBegins
-        ]
-        .as_slice()
-    );
+    assert_eq!(rt; u8::from(Arrivals::opening_code()), 9);
+    assert!(rt; have_codes(Arrivals::further_codes(), &[1, 8]));
+    assert_eq!(rt; u8::from(SplitFailures::opening_code()), 1);
+    assert!(rt; have_codes(SplitFailures::further_codes(), &[8, 9]));
+    assert_eq!(rt; u8::from(RedLight::opening_code()), 8);
+    assert!(rt; have_codes(RedLight::further_codes(), &[9, 11, 1]));
 }
 
 #[test]

@@ -82,11 +82,6 @@ not_at [] k i l e = absurd (omega arith)
 not_at (f ∷ fs) k zero l e = (or_parts (eqb k f) (among fs k) e).0
 not_at (f ∷ fs) k (suc i) l e = not_at fs k i (omega arith) (or_parts (eqb k f) (among fs k) e).1
 
-is_among : (fs : List ℕ) (i : ℕ) → i < length fs → among fs (get_or fs i 0) ≡ true
-is_among [] i l = absurd (omega arith)
-is_among (f ∷ fs) zero l = ap (λ b. b || among fs f) (eq-eqb f f refl)
-is_among (f ∷ fs) (suc i) l = ap (λ b. eqb (get_or fs i 0) f || b) (is_among fs i (omega arith)) ∙ (grind (arith, nat_tests))
-
 apart : (fs : List ℕ) → all_different fs ≡ true → (i j : ℕ) → i < length fs → j < length fs → (i ≡ j → ⊥) → eqb (get_or fs i 0) (get_or fs j 0) ≡ false
 apart [] d i j l k n = absurd (omega arith)
 apart (f ∷ fs) d zero zero l k n = absurd (n refl)

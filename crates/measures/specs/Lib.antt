@@ -4,6 +4,7 @@ pub mod Records
 pub mod Meanings
 pub mod Intervals
 pub mod Arrivals
+pub mod Cycles
 pub mod Debouncing
 pub mod RedLight
 pub mod SplitFailures

@@ -16,7 +16,7 @@ use controller_log::event::Event;
 pub struct Arrivals {
     shows: Interval,
     opened: u32,
-    // Each 0 until it begins: close may come at any time, and would read a None as 0.
+    // Both are 0 before they begin. An Option would only be turned into 0 again where `close` comes early.
     green: u32,
     yellow: u32,
     on_red: u64,

@@ -11,6 +11,7 @@ use std::marker::Model;
 
 // A contract sees the set as a number: a bit for each channel, the lowest for channel 1.
 // Bits, and no set of std: a measure keeps to fixed memory and takes no allocator.
+// That the number fits (`bits`) is told by the methods, since a contract does not see the field.
 #[derive(Clone, Copy, PartialEq, Eq, Debug)]
 pub struct ChannelSet {
     mask: u64,

@@ -1,5 +1,6 @@
 // A whole cycle played on a measure.
 ghost use Rattle.std.specs.Prelude.{◌≡◌};
+ghost use Rattle.measures.specs.Cycles.{meaning_of};
 ghost use Rattle.measures.specs.Meanings.{Whole, calls, tallied};
 
 use crate::channels::ChannelSet;
@@ -16,8 +17,8 @@ pub fn figures_of_cycle<M: Measure>(
     closed: u32,
 ) -> [u64; FIGURES]
     ensures same { M.Measure.settings measure.new ≡ M.Measure.settings measure.old }
-    ensures figures { Whole (M.Measure.meaning (M.Measure.settings measure.old)) (calls opened occupied between.now) closed → result ≡ (M.Measure.meaning (M.Measure.settings measure.old)).closed (tallied (M.Measure.meaning (M.Measure.settings measure.old)) (calls opened occupied between.now)) closed }
-    ensures words { Whole (M.Measure.meaning (M.Measure.settings measure.old)) (calls opened occupied between.now) closed → M.Measure.words (M.Measure.settings measure.old) (calls opened occupied between.now) closed result }
+    ensures figures { Whole (meaning_of M.Measure measure.old) (calls opened occupied between.now) closed → result ≡ (meaning_of M.Measure measure.old).closed (tallied (meaning_of M.Measure measure.old) (calls opened occupied between.now)) closed }
+    ensures words { Whole (meaning_of M.Measure measure.old) (calls opened occupied between.now) closed → M.Measure.words (M.Measure.settings measure.old) (calls opened occupied between.now) closed result }
 {
     measure.open(opened, occupied);
     for own in between {

@@ -82,6 +82,7 @@ impl<M: Measure> Measure for Debounced<M> {
         self.below.open(moment, occupied);
     }
 
+    // The trait's two clauses stand again, since an impl's own replace them.
     fn step(&mut self, own: OwnRecord)
         ensures same { M.Measure.settings self.new.below ≡ M.Measure.settings self.old.below }
         ensures after { MayStep (debounced (meant M.Measure self.old)) (tally M.Measure self.old) own → tally M.Measure self.new ≡ (debounced (meant M.Measure self.old)).stepped (tally M.Measure self.old) own }

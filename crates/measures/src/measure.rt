@@ -22,6 +22,7 @@ pub trait Measure: Sized {
     // A cycle runs from one record with the opening event to the next.
     const OPENING: Event;
 
+    // The same for proofs, as the language asks for a constant that clauses name; the check proves the two equal.
     ghost OPENING: { Event };
 
     // The events that come between, once each and in this order.
@@ -41,6 +42,7 @@ pub trait Measure: Sized {
     // The codes and shifts lie in their ranges.
     ghost lawful: { (s : Self.Settings) → Lawful (meaning s) };
 
+    // The opening is the one that the settings mean.
     ghost opens: { (s : Self.Settings) → code_of OPENING ≡ (meaning s).opening };
 
     fn new(chosen: Self::Settings) -> Self

@@ -6,7 +6,7 @@ use controller_log::event::Event;
 
 #[derive(Clone, Copy, PartialEq, Eq, Debug)]
 pub struct OwnRecord {
-    // Any byte, as in a log: a measure passes over what it does not know.
+    // Any byte, as in a log: an Event would ask more of whoever makes a record.
     pub code: u8,
     pub parameter: u8,
     // The moment plus the watch's shift, where the record is a detector's.

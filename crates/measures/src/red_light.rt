@@ -18,7 +18,7 @@ pub struct RedLight {
     severity: Severity,
     shows: Interval,
     opened: u32,
-    // 0 until it begins: close may come at any time, and would read a None as 0.
+    // 0 before it begins. An Option would only be turned into 0 again where `close` comes early.
     red: u32,
     on_yellow: u64,
     on_clearance: u64,

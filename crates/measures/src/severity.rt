@@ -25,7 +25,7 @@ impl Model for Severity {
 }
 
 impl Severity {
-    // Refused where it is over the limit.
+    // Refused where it is over the limit. A constructor: a bare number does not say that it is a severity.
     pub fn new(tenths: u8) -> Result<Severity, Refusal>
         ensures { MatchResult result (λ s. (s ≡ tenths) × (tenths ≤ max_severity)) (λ e. (told e ≡ told SeverityTooLong) × (max_severity < tenths)) }
     {

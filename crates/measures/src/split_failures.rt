@@ -18,7 +18,7 @@ use controller_log::event::Event;
 pub struct SplitFailures {
     shows: Interval,
     opened: u32,
-    // Each 0 until it begins: close may come at any time, and would read a None as 0.
+    // Both are 0 before they begin. An Option would only be turned into 0 again where `close` comes early.
     yellow: u32,
     red: u32,
     // The moment of the latest record; the tenths up to it are counted.
@@ -26,7 +26,7 @@ pub struct SplitFailures {
     occupied: ChannelSet,
     green_occupied: u64,
     red_occupied: u64,
-    // Why green ended, if something said so.
+    // Why green ended: the first gap-out, max-out or force-off in it, if one came.
     cause: Option<Event>,
 }
 
@@ -67,7 +67,8 @@ impl SplitFailures {
         }
     }
 
-    // The occupied tenths of green up to a moment.
+    // The occupied tenths of green up to a moment. That the sum is small is a premise here and below, and no invariant:
+    // a step may come at any time, and only in a cycle do sums stay small.
     fn green_until(&self, moment: u32) -> u64
         ensures { self.now.green_occupied ≤ longest_cycle → result ≡ green_until (kept self.now) moment }
     {
@@ -169,6 +170,7 @@ impl Measure for SplitFailures {
             green,
             self.green_occupied,
             red_occupied,
+            // The figure is 0 where nothing said why green ended.
             self.cause.map_or(0, |event| u64::from(u8::from(event))),
             u64::from(split_failed(green, self.green_occupied, red_occupied)),
             0,
