@@ -62,7 +62,7 @@ impl ChannelSet {
     }
 
     // The set with a channel too; a number that is no channel leaves it as it is.
-    #[tactic(auto, using(crate::proofs::Sets::bit_set, crate::proofs::Sets::holds_entered))]
+    #[tactic(auto, using(crate::proofs::Sets::bit_set, crate::proofs::Sets::holds_entered, crate::proofs::Sets::or_fits))]
     pub fn with(self, entering: u8) -> ChannelSet
         ensures value { result ≡ entered self entering }
         ensures members { (d : ℕ) → channel d ≡ true → holds result d ≡ (entering == d || holds self d) }
