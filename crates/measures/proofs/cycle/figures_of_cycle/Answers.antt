@@ -6,9 +6,6 @@ use Rattle.measures.proofs.Along.{stepped_on}
 use Rattle.measures.proofs.Marks.{of_answer}
 use Rattle.measures.proofs.cycle.figures_of_cycle.Goals as goal
 
-pub loop-own-init : goal.loop-own-init
-loop-own-init g c = (refl, λ q e a. e)
-
 pub loop-own-preserved : goal.loop-own-preserved
 loop-own-preserved g c =
     let m = g.M.Measure in
