@@ -1,15 +1,14 @@
 -- The rows of a file that enter a table one after another keep the rules of a table.
-use Rattle.std.proofs.Common.{◌≡◌, ℕ, ◌+◌, ◌-◌, ◌≤◌, Bool, true, false, cond, leb, ◌⊎◌, List, [], ◌∷◌, ◌++◌, length, get_or, set, is_some, Some, None, IfOk, Ok, Err, Option, Result, sym, refl, ap, ◌∙◌, subst, inl, inr, ⊎_elim, append_assoc, append-nil, arith}
+use Rattle.std.proofs.Common.{◌≡◌, ℕ, ◌+◌, ◌-◌, ◌≤◌, Bool, true, false, cond, leb, ◌⊎◌, List, [], ◌∷◌, ◌++◌, length, get_or, set, is_some, Some, None, Ok, Err, Option, Result, sym, refl, ap, ◌∙◌, subst, inl, inr, ⊎_elim, append_assoc, append-nil, arith}
 use Rattle.std.proofs.lemmas.List.{get_or-replicate, get_or-set_same, get_or-set_other, length-set, length_push}
 use Rattle.std.proofs.lemmas.Bool.{and_parts, and_from, leb-true, eqb-true, eq-eqb, le-leb, cases_eq, cond-true, true≢false}
 use Rattle.controller_log.specs.Pieces.{pieces}
 use Rattle.controller_log.specs.Detectors.{within, read_row}
 use Rattle.controller_log.specs.Limits.{channels}
-use Rattle.controller_log.specs.Refusals.{Told, told, answer, then}
+use Rattle.controller_log.specs.Refusals.{Told, told, then}
 use Rattle.controller_log.specs.TableRules.{Lists, Sound, Holds, FirstFault, TableRules}
 use Rattle.controller_log.specs.Tables.{lookup, no_rows, with_row, enter, entered, table_length, read_table}
 use Rattle.controller_log.specs.declared.detector.DetectorRow.{DetectorRow}
-use Rattle.controller_log.specs.declared.refusal.Refusal.{Refusal}
 use Rattle.controller_log.specs.declared.refusal.Refusal.TheVariants.{TableLength, RowOutOfRange, ChannelRepeated}
 use Rattle.controller_log.specs.declared.table.DetectorTable.{DetectorTable}
 use Rattle.controller_log.proofs.Entering.{entered_more, entered_twice}
@@ -47,20 +46,20 @@ sound_push (r ∷ rows) row c d e new s = (
 )
 
 -- a look-up after a row was put
-module _ (t : DetectorTable) (size : length t ≡ channels) (c : ℕ) (d : DetectorRow) (in_range : within 1 channels c ≡ true) where
+module _ (t : DetectorTable) (size : length t.places ≡ channels) (c : ℕ) (d : DetectorRow) (in_range : within 1 channels c ≡ true) where
   lookup_put : lookup (with_row t c d) c ≡ Some d
   lookup_put =
       let l = within_bounds 1 channels c in_range in
-      cond-true (within 1 channels c) (get_or (set t (c - 1) (Some d)) (c - 1) None) None in_range ∙ get_or-set_same t (c - 1) (Some d) None (omega arith)
+      cond-true (within 1 channels c) (get_or (set t.places (c - 1) (Some d)) (c - 1) None) None in_range ∙ get_or-set_same t.places (c - 1) (Some d) None (omega arith)
 
   lookup_other : (channel : ℕ) → (channel ≡ c → ⊥) → lookup (with_row t c d) channel ≡ lookup t channel
   lookup_other channel other = go (within 1 channels channel) refl
     where
-      go : (b : Bool) → within 1 channels channel ≡ b → cond b (get_or (set t (c - 1) (Some d)) (channel - 1) None) None ≡ cond b (get_or t (channel - 1) None) None
+      go : (b : Bool) → within 1 channels channel ≡ b → cond b (get_or (set t.places (c - 1) (Some d)) (channel - 1) None) None ≡ cond b (get_or t.places (channel - 1) None) None
       go true e =
           let a = within_bounds 1 channels channel e in
           let l = within_bounds 1 channels c in_range in
-          get_or-set_other t (c - 1) (channel - 1) (Some d) None (λ q. other (omega arith))
+          get_or-set_other t.places (c - 1) (channel - 1) (Some d) None (λ q. other (omega arith))
       go false e = refl
 
 not_some : {X : Type 0} (o : Option X) (x : X) → is_some o ≡ false → o ≡ Some x → ⊥
@@ -72,7 +71,7 @@ some_value (Some x) e = (x, refl)
 
 -- the rows so far are held, and the table has all its places
 pub record Sofar (rows : List (List ℕ)) (t : DetectorTable) : Type 0 where
-  pub size : length t ≡ channels
+  pub size : length t.places ≡ channels
   pub holds : Holds rows t
 
 sofar_more : (rows : List (List ℕ)) (t : DetectorTable) (row : List ℕ) (c : ℕ) (d : DetectorRow) → Sofar rows t → read_row row ≡ Some (c, d) → is_some (lookup t c) ≡ false → Sofar (rows ++ row ∷ []) (with_row t c d)
@@ -81,7 +80,7 @@ sofar_more rows t row c d s e free =
     let range = (row_facts row (c, d) e).channel in
     let new : (f : DetectorRow) → Lists rows c f → ⊥ = λ f l. not_some (lookup t c) f free (h.held c f l) in
     record {
-      size = length-set t (c - 1) (Some d) ∙ s.size;
+      size = length-set t.places (c - 1) (Some d) ∙ s.size;
       holds = record {
         sound = sound_push rows row c d e new h.sound;
         listed = λ channel f l.
@@ -99,13 +98,13 @@ sofar_more rows t row c d s e free =
 
 -- what an answer says of rows that entered one after another
 abbrev Kept : List (List ℕ) → Result DetectorTable Told → Type 0
-Kept rows (Ok t) = Sofar rows t
+Kept rows (Ok t) = Holds rows t
 Kept rows (Err e) =
     ((k : ℕ) × (f : FirstFault rows k) × (e ≡ told (RowOutOfRange k)) × (read_row f.row ≡ None))
     ⊎ ((k : ℕ) × (f : FirstFault rows k) × (e ≡ told (ChannelRepeated k)) × ((channel : ℕ) × (c d : DetectorRow) × (read_row f.row ≡ Some (channel, d)) × Lists f.before channel c))
 
 kept_from : (before : List (List ℕ)) (t : DetectorTable) (rows : List (List ℕ)) → Sofar before t → Kept (before ++ rows) (entered (length before + 1) t rows)
-kept_from before t [] s = subst (λ r. Sofar r t) (sym (append-nil before)) s
+kept_from before t [] s = subst (λ r. Holds r t) (sym (append-nil before)) s.holds
 kept_from before t (row ∷ rows) s = at (λ u. kept_from (before ++ row ∷ []) u rows) (read_row row) refl
   where
     GoesOn : Type 0
@@ -139,36 +138,20 @@ none_yet = record {
     empty : (channel : ℕ) (d : DetectorRow) → lookup no_rows channel ≡ Some d → ⊥
     empty channel d e = go (within 1 channels channel) refl e
       where
-        go : (b : Bool) → within 1 channels channel ≡ b → cond b (get_or no_rows (channel - 1) None) None ≡ Some d → ⊥
+        go : (b : Bool) → within 1 channels channel ≡ b → cond b (get_or no_rows.places (channel - 1) None) None ≡ Some d → ⊥
         go true w h =
             let l = within_bounds 1 channels channel w in
-            not_some (get_or no_rows (channel - 1) None) d (ap is_some (get_or-replicate channels (channel - 1) None None (omega arith))) h
+            not_some (get_or no_rows.places (channel - 1) None) d (ap is_some (get_or-replicate channels (channel - 1) None None (omega arith))) h
         go false w h = not_some None d refl h
 
 pub rules_kept : (bs : List ℕ) → TableRules bs (read_table bs)
 rules_kept bs = at (table_length bs) refl
   where
     whole : (r : Result DetectorTable Told) → table_length bs ≡ true → Kept (pieces bs) r → TableRules bs r
-    whole (Ok t) e k = let p = and_parts _ _ e in (eqb-true _ _ p.0, leb-true _ _ p.1, k.holds)
+    whole (Ok t) e k = let p = and_parts _ _ e in (eqb-true _ _ p.0, leb-true _ _ p.1, k)
     whole (Err x) e (inl k) = inr (inl k)
     whole (Err x) e (inr k) = inr (inr k)
 
     at : (b : Bool) → table_length bs ≡ b → TableRules bs (cond b (entered 1 no_rows (pieces bs)) (Err (told TableLength)))
     at true e = whole (entered 1 no_rows (pieces bs)) e (kept_from [] no_rows (pieces bs) none_yet)
     at false e = inl (refl, λ m l. true≢false (sym (and_from _ _ (eq-eqb _ _ m) (le-leb _ _ l)) ∙ e))
-
--- a table that was read has all its places
-pub places_kept : (bs : List ℕ) (r : Result DetectorTable Refusal) → answer r ≡ read_table bs → IfOk r (λ t. length t ≡ channels)
-places_kept bs r e = of_told r (subst (λ a. IfOk a (λ t. length t ≡ channels)) (sym e) (at (table_length bs)))
-  where
-    of_told : (r : Result DetectorTable Refusal) → IfOk (answer r) (λ t. length t ≡ channels) → IfOk r (λ t. length t ≡ channels)
-    of_told (Ok t) k = k
-    of_told (Err x) k = tt
-
-    size : (a : Result DetectorTable Told) → Kept (pieces bs) a → IfOk a (λ t. length t ≡ channels)
-    size (Ok t) k = k.size
-    size (Err x) k = tt
-
-    at : (b : Bool) → IfOk (cond b (entered 1 no_rows (pieces bs)) (Err (told TableLength))) (λ t. length t ≡ channels)
-    at true = size (entered 1 no_rows (pieces bs)) (kept_from [] no_rows (pieces bs) none_yet)
-    at false = tt

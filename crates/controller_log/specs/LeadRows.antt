@@ -12,7 +12,7 @@ if_named wanted (Some d) = cond (names wanted d) (Some d) None
 
 -- the rows that are wanted, each at its channel's place
 abbrev pub rows_naming : Wanted → DetectorTable → DetectorTable
-rows_naming wanted t = map (if_named wanted) t
+rows_naming wanted t = record { places = map (if_named wanted) t.places }
 
 -- the row of the lowest place that has one
 abbrev pub first_row : List (Option DetectorRow) → Option DetectorRow
@@ -22,7 +22,7 @@ first_row (Some d ∷ places) = Some d
 
 -- the lead row: that of the lowest channel among the rows that are wanted
 abbrev pub lead_row : Wanted → DetectorTable → Option DetectorRow
-lead_row wanted t = first_row (rows_naming wanted t)
+lead_row wanted t = first_row (rows_naming wanted t).places
 
 -- the places below k have no row that is wanted
 abbrev pub NoneBelow : ℕ → Wanted → List (Option DetectorRow) → Type 0

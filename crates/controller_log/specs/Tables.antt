@@ -10,15 +10,15 @@ use Rattle.controller_log.specs.declared.table.DetectorTable.{DetectorTable}
 
 -- the row of a channel, if it has one
 abbrev pub lookup : DetectorTable → ℕ → Option DetectorRow
-lookup t channel = cond (within 1 channels channel) (slice_index_or t (channel - 1) None) None
+lookup t channel = cond (within 1 channels channel) (slice_index_or t.places (channel - 1) None) None
 
 -- the table without rows
 abbrev pub no_rows : DetectorTable
-no_rows = replicate channels None
+no_rows = record { places = replicate channels None }
 
 -- the table with a row put at a channel
 abbrev pub with_row : DetectorTable → ℕ → DetectorRow → DetectorTable
-with_row t channel d = slice_set t (channel - 1) (Some d)
+with_row t channel d = record { places = slice_set t.places (channel - 1) (Some d) }
 
 -- the k-th row of a file is put at its channel: refused out of range, and where the channel has a row
 abbrev pub enter : ℕ → DetectorTable → Option (ℕ × DetectorRow) → Result DetectorTable Told

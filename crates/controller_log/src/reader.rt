@@ -1,5 +1,5 @@
 // A log read record by record: the bytes of each with its number from 1, a short last piece too.
-ghost use Rattle.std.specs.Prelude.{◌≡◌, ◌+◌, ◌^◌, ◌<◌, length};
+ghost use Rattle.std.specs.Prelude.{◌≡◌, ◌+◌, ◌-◌, ◌^◌, ◌<◌, length, min};
 ghost use Rattle.std.specs.Iterator.{at_most};
 ghost use Rattle.std.specs.Iterator.Adapters.{enumerate_source, enumerate_count};
 ghost use Rattle.std.specs.Slice.Iter.{chunks_rest, chunks_size};
@@ -45,7 +45,8 @@ impl<'a> Iterator for LogReader<'a> {
 
     ghost next_gives = { Yields };
 
-    ghost remaining = { λ s. at_most (length s.to_come) };
+    // Fewer than 2^64 pieces, wherever the reader was made: its log is in memory.
+    ghost remaining = { λ s. at_most (min (length s.to_come) (2 ^ 64 - 1)) };
 
     fn next(&mut self) -> Option<(usize, &'a [u8])> {
         let (before, piece) = self.chunks.next()?;

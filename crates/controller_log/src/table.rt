@@ -1,5 +1,5 @@
 // A detector table: a place for each of 64 channels, read from a file of 8-byte rows.
-ghost use Rattle.std.specs.Prelude.{◌≡◌, ◌+◌, ◌%◌, ◌^◌, ◌<◌, true, length, IfOk};
+ghost use Rattle.std.specs.Prelude.{◌≡◌, ◌+◌, ◌%◌, ◌^◌, ◌<◌, true, length};
 ghost use Rattle.controller_log.specs.Detectors.{within, read_row};
 ghost use Rattle.controller_log.specs.Limits.{channels, record_size};
 ghost use Rattle.controller_log.specs.LeadRows.{rows_naming, lead_row, Lowest};
@@ -11,26 +11,12 @@ ghost use Rattle.controller_log.specs.Tables.{lookup, no_rows, with_row, enter, 
 use crate::detector::{DetectorRow, Wanted};
 use crate::limits::{MAX_TABLE_SIZE, RECORD_SIZE, TABLE_PLACES};
 use crate::refusal::Refusal;
-use std::marker::Model;
 
 // One place for each channel, and no map: the memory is fixed, and a look-up takes constant time.
+// No model: a contract sees the array, whose type tells that there are 64 places, and a model would hide it.
 #[derive(Clone, Copy, PartialEq, Eq, Debug)]
 pub struct DetectorTable {
     places: [Option<DetectorRow>; TABLE_PLACES],
-}
-
-impl Model for DetectorTable {
-    ghost use Rattle.std.specs.Prelude.{◌≡◌, List, length, Option};
-    ghost use Rattle.controller_log.specs.Limits.{channels};
-    ghost use Rattle.controller_log.specs.declared.detector.DetectorRow.{DetectorRow};
-
-    ghost Value = { List (Option DetectorRow) };
-
-    ghost view = { λ t. t.places };
-
-    ghost invariant = { λ t. length t.places ≡ channels };
-
-    ghost inverse = { λ places. record { places = places } };
 }
 
 impl DetectorTable {
@@ -45,12 +31,10 @@ impl DetectorTable {
 
     // The row of a channel, if it has one.
     pub fn lookup(&self, channel: u8) -> Option<DetectorRow>
-        ensures value { result ≡ lookup self.now channel }
-        ensures places { length self.now ≡ channels }
+        ensures { result ≡ lookup self.now channel }
     {
-        let places = &self.places;
         let place = usize::from(channel).checked_sub(1)?;
-        places.get(place).copied().flatten()
+        self.places.get(place).copied().flatten()
     }
 
     // The channel is the row's place.
@@ -63,8 +47,7 @@ impl DetectorTable {
 
     // The rows that are wanted, each at its channel's place.
     pub fn rows_naming(&self, wanted: Wanted) -> DetectorTable
-        ensures value { result ≡ rows_naming wanted self.now }
-        ensures places { length result ≡ channels }
+        ensures { result ≡ rows_naming wanted self.now }
     {
         DetectorTable {
             places: self
@@ -76,8 +59,7 @@ impl DetectorTable {
     // The row of the lowest channel among those that are wanted.
     pub fn lead_row(&self, wanted: Wanted) -> Option<DetectorRow>
         ensures value { result ≡ lead_row wanted self.now }
-        ensures lowest { Lowest wanted self.now result }
-        ensures places { length self.now ≡ channels }
+        ensures lowest { Lowest wanted self.now.places result }
     {
         self.places
             .iter()
@@ -89,7 +71,6 @@ impl DetectorTable {
     pub fn read(bytes: &[u8]) -> Result<DetectorTable, Refusal>
         ensures value { answer result ≡ read_table bytes.now }
         ensures rules { TableRules bytes.now (answer result) }
-        ensures places { IfOk result (λ t. length t ≡ channels) }
     {
         if bytes.len() % RECORD_SIZE != 0 || bytes.len() > MAX_TABLE_SIZE {
             return Err(Refusal::TableLength);

@@ -1,7 +1,7 @@
 -- What a set of channels holds once it was changed.
 use Rattle.std.proofs.Common.{◌≡◌, ℕ, zero, suc, ◌-◌, ◌/◌, ◌%◌, ◌^◌, ◌<◌, ◌≤◌, Bool, true, false, cond, ◌&&◌, ◌||◌, not, eqb, sym, ap, refl, ◌∙◌, subst, ⊎_elim, arith}
 use lib.Bits.{bit_and, bit_or, bit_xor}
-use Rattle.std.proofs.lemmas.Nat.{or_lt, and_mask, and_comm, and-not, pow_below, mod_below, pow_pos}
+use Rattle.std.proofs.lemmas.Nat.{and_mask, and_comm, and-not, pow_below, mod_below, pow_pos}
 use Rattle.std.proofs.lemmas.Nat.Bits.{bit_at_or, bit_at_xor, bit_at-pow_same, bit_at-pow_other, bit_at-lt, bit_at-zero, and_pow, same_from_bits_below}
 use Rattle.std.specs.Int.{bit_at}
 use Rattle.std.specs.Int.Bits.{and_zero_r, or_zero_r, xor_add_and}
@@ -139,7 +139,3 @@ one_same p r (suc n) h =
 pub some_same : (p r : ℕ → Bool) → ((d : ℕ) → channel d ≡ true → p d ≡ r d) → some_channel p ≡ some_channel r
 unfolding some_channel
 some_same p r h = one_same p r channels (λ i l k. h i (grind (arith, nat_tests)))
-
--- the bits of two numbers of 64 bits fit 64 bits
-pub or_fits : (a b : ℕ) → a < 2 ^ 64 → b < 2 ^ 64 → bit_or a b < 2 ^ 64
-or_fits a b l k = or_lt 64 a b l k

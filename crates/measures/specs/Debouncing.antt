@@ -71,8 +71,8 @@ abbrev pub meant : {M S : Type 0} → Ghosts M S → Debounced M S → Meaning
 meant g s = g.meaning (g.settings s.below)
 
 abbrev pub tally : {M S : Type 0} → Ghosts M S → Debounced M S → List ℕ
-tally g s = s.on ∷ g.tally s.below
+tally g s = s.on.mask ∷ g.tally s.below
 
 -- a step of the layer: whichever calls led to its tally, it comes to what these and the step should come to
 abbrev pub Steps : {M S : Type 0} → Ghosts M S → Debounced M S → OwnRecord → Debounced M S → Type 0
-Steps g s own s' = (c : Calls) → Admissible (debounced (meant g s)) (c ▹ own) → tally g s ≡ tallied (debounced (meant g s)) c → Debounces (meant g s) (c ▹ own) s'.on (g.tally s'.below)
+Steps g s own s' = (c : Calls) → Admissible (debounced (meant g s)) (c ▹ own) → tally g s ≡ tallied (debounced (meant g s)) c → Debounces (meant g s) (c ▹ own) s'.on.mask (g.tally s'.below)

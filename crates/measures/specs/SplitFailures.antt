@@ -96,7 +96,7 @@ cause_number None = 0
 cause_number (Some e) = code_of e
 
 abbrev pub kept : SplitFailures → Tally
-kept s = record { shows = shown s.shows; opened = s.opened; yellow = s.yellow; red = s.red; last = s.last; occupied = s.occupied; green_occupied = s.green_occupied; red_occupied = s.red_occupied; cause = cause_number s.cause }
+kept s = record { shows = shown s.shows; opened = s.opened; yellow = s.yellow; red = s.red; last = s.last; occupied = s.occupied.mask; green_occupied = s.green_occupied; red_occupied = s.red_occupied; cause = cause_number s.cause }
 
 abbrev pub tally : SplitFailures → List ℕ
 tally s = listed (kept s)

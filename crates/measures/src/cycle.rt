@@ -17,8 +17,8 @@ pub fn figures_of_cycle<M: Measure>(
     closed: u32,
 ) -> [u64; FIGURES]
     ensures same { M.Measure.settings measure.new ≡ M.Measure.settings measure.old }
-    ensures figures { Whole (meaning_of M.Measure measure.old) (calls opened occupied between.now) closed → result ≡ (meaning_of M.Measure measure.old).closed (tallied (meaning_of M.Measure measure.old) (calls opened occupied between.now)) closed }
-    ensures words { Whole (meaning_of M.Measure measure.old) (calls opened occupied between.now) closed → M.Measure.words (M.Measure.settings measure.old) (calls opened occupied between.now) closed result }
+    ensures figures { Whole (meaning_of M.Measure measure.old) (calls opened occupied.mask between.now) closed → result ≡ (meaning_of M.Measure measure.old).closed (tallied (meaning_of M.Measure measure.old) (calls opened occupied.mask between.now)) closed }
+    ensures words { Whole (meaning_of M.Measure measure.old) (calls opened occupied.mask between.now) closed → M.Measure.words (M.Measure.settings measure.old) (calls opened occupied.mask between.now) closed result }
 {
     measure.open(opened, occupied);
     for own in between {

@@ -20,7 +20,7 @@ pub struct Debounced<M: Measure> {
 impl<M: Measure> Debounced<M> {
     // The layer over a measure.
     pub fn over(below: M) -> Debounced<M>
-        ensures { (result.below ≡ below) × (result.on ≡ 0) }
+        ensures { (result.below ≡ below) × (result.on.mask ≡ 0) }
     {
         Debounced {
             on: ChannelSet::empty(),
@@ -30,7 +30,7 @@ impl<M: Measure> Debounced<M> {
 
     // Whether a record is an activation of a channel that is on already.
     fn repeats(&self, own: OwnRecord) -> bool
-        ensures { result ≡ dropped self.now.on own }
+        ensures { result ≡ dropped self.now.on.mask own }
     {
         own.event() == Some(Event::DetectorOn) && self.on.contains(own.parameter)
     }

@@ -72,7 +72,7 @@ pub trait Measure: Sized {
 
     fn open(&mut self, moment: u32, occupied: ChannelSet)
         ensures same { settings self.new ≡ settings self.old }
-        ensures after { tally self.new ≡ (meaning (settings self.old)).opened moment occupied };
+        ensures after { tally self.new ≡ (meaning (settings self.old)).opened moment occupied.mask };
 
     fn step(&mut self, own: OwnRecord)
         ensures same { settings self.new ≡ settings self.old }

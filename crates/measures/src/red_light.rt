@@ -52,7 +52,7 @@ impl RedLight {
 
     // Whether an entry at this moment is severe.
     fn severe_at(&self, moment: u32) -> bool
-        ensures { result ≡ nat_le (self.now.red + self.now.severity) moment }
+        ensures { result ≡ nat_le (self.now.red + self.now.severity.tenths) moment }
     {
         u64::from(self.red) + u64::from(self.severity.tenths()) <= u64::from(moment)
     }
@@ -73,13 +73,13 @@ impl Measure for RedLight {
 
     ghost settings = { λ s. s.severity };
 
-    ghost meaning = { red_light };
+    ghost meaning = { λ s. red_light s.tenths };
 
     ghost tally = { tally };
 
-    ghost words = { RedLightFigures };
+    ghost words = { λ s. RedLightFigures s.tenths };
 
-    ghost lawful = { red_light_lawful };
+    ghost lawful = { λ s. red_light_lawful s.tenths };
 
     ghost opens = { λ _. refl };
 

@@ -1,33 +1,23 @@
 // How long after red begins an entry counts as severe: the setting of the red-light measure.
-ghost use Rattle.std.specs.Prelude.{◌≡◌, ℕ, ◌<◌, ◌≤◌, MatchResult};
+ghost use Rattle.std.specs.Prelude.{◌≡◌, ◌<◌, ◌≤◌, MatchResult};
 ghost use Rattle.controller_log.specs.Refusals.{told};
 ghost use Rattle.controller_log.specs.declared.refusal.Refusal.TheVariants.{SeverityTooLong};
 ghost use Rattle.measures.specs.Limits.{max_severity};
 
 use crate::limits::MAX_SEVERITY;
 use controller_log::refusal::Refusal;
-use std::marker::Model;
 
 // In tenths of a second.
 #[derive(Clone, Copy, PartialEq, Eq, Debug)]
 pub struct Severity {
     tenths: u8,
-}
-
-impl Model for Severity {
-    ghost Value = { ℕ };
-
-    ghost view = { λ s. s.tenths };
-
-    ghost invariant = { λ s. s.tenths ≤ max_severity };
-
-    ghost inverse = { λ n. record { tenths = n } };
+    ghost short: { tenths ≤ max_severity },
 }
 
 impl Severity {
     // Refused where it is over the limit. A constructor: a bare number does not say that it is a severity.
     pub fn new(tenths: u8) -> Result<Severity, Refusal>
-        ensures { MatchResult result (λ s. (s ≡ tenths) × (tenths ≤ max_severity)) (λ e. (told e ≡ told SeverityTooLong) × (max_severity < tenths)) }
+        ensures { MatchResult result (λ s. (s.tenths ≡ tenths) × (tenths ≤ max_severity)) (λ e. (told e ≡ told SeverityTooLong) × (max_severity < tenths)) }
     {
         if tenths > MAX_SEVERITY {
             return Err(Refusal::SeverityTooLong);
@@ -37,7 +27,7 @@ impl Severity {
 
     // A method and no From, since its name says the unit.
     pub fn tenths(&self) -> u8
-        ensures { (result ≡ self.now) × (result ≤ max_severity) }
+        ensures { (result ≡ self.now.tenths) × (result ≤ max_severity) }
     {
         self.tenths
     }

@@ -41,7 +41,7 @@ fn split_failed(green: u64, green_occupied: u64, red_occupied: u64) -> bool
 
 impl SplitFailures {
     fn opened_at(moment: u32, occupied: ChannelSet) -> SplitFailures
-        ensures { tally result ≡ listed (first moment occupied) }
+        ensures { tally result ≡ listed (first moment occupied.mask) }
     {
         SplitFailures {
             shows: Interval::Green,

@@ -7,7 +7,7 @@ returns g c =
     let s = c.args.self.now.below in
     let below = m.meaning (m.settings s) in
     let lawful = m.lawful (m.settings s) in
-    let q = c.args.self.now.on in
+    let q = c.args.self.now.on.mask in
     let u = m.tally s in
     let e = c.args.moment in
     record {

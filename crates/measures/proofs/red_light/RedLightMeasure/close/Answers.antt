@@ -9,5 +9,5 @@ returns-clause-figures c h = let r = room_to_close _ _ _ h in record { value = r
 
 pub returns-clause-whole_cycle : goal.returns-clause-whole_cycle
 returns-clause-whole_cycle c d w e =
-    let S = c.args.self.now.severity in
+    let S = c.args.self.now.severity.tenths in
     of_answer (red_light S) d c.args.moment w _ _ (RedLightFigures S d c.args.moment) (returns-clause-figures c) e (figures_of_cycle S d c.args.moment w)
