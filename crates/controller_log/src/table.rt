@@ -13,7 +13,7 @@ use crate::limits::{MAX_TABLE_SIZE, RECORD_SIZE, TABLE_PLACES};
 use crate::refusal::Refusal;
 
 // One place for each channel, and no map: the memory is fixed, and a look-up takes constant time.
-// No model: a contract sees the array, whose type tells that there are 64 places, and a model would hide it.
+// No model: a contract sees the array, whose type tells that it has 64 places, and a model would hide that.
 #[derive(Clone, Copy, PartialEq, Eq, Debug)]
 pub struct DetectorTable {
     places: [Option<DetectorRow>; TABLE_PLACES],

@@ -8,7 +8,7 @@ use controller_log::event::Event;
 use controller_log::limits::CHANNELS;
 
 // A bit for each channel, the lowest for channel 1, and no set of std: a measure keeps to fixed memory and takes no allocator.
-// No model: a contract sees the bits, whose type tells that there are 64, and a model would hide it.
+// No model: a contract sees the bits, whose type tells that there are 64, and a model would hide that.
 #[derive(Clone, Copy, PartialEq, Eq, Debug)]
 pub struct ChannelSet {
     mask: u64,

@@ -7,7 +7,7 @@ ghost use Rattle.measures.specs.Limits.{max_severity};
 use crate::limits::MAX_SEVERITY;
 use controller_log::refusal::Refusal;
 
-// In tenths of a second.
+// In tenths of a second. A ghost field and no model: a model would hide the limit from whoever is handed a severity.
 #[derive(Clone, Copy, PartialEq, Eq, Debug)]
 pub struct Severity {
     tenths: u8,
