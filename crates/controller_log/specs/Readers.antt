@@ -1,13 +1,20 @@
 -- A log read record by record.
 use Rattle.std.specs.Prelude.{◌≡◌, ℕ, ◌+◌, List, [], ◌∷◌, Some, None, Option}
 use Rattle.std.specs.Borrow.{Bor}
+use Rattle.std.specs.Iterator.Adapters.{enumerate_source, enumerate_count}
+use Rattle.std.specs.Slice.Iter.{chunks_rest}
+use Rattle.controller_log.specs.Pieces.{pieces}
+use Rattle.controller_log.specs.declared.reader.LogReader.{LogReader}
 
--- a reader: the records' bytes that are still to come, in the log's order, and the number of the last that came, 0 before the first
-pub record Reading : Type 0 where
-  pub to_come : List (List ℕ)
-  pub number : ℕ
+-- the records' bytes that a reader has yet to yield, in the log's order
+abbrev pub yet_to_come : LogReader → List (List ℕ)
+yet_to_come s = pieces (chunks_rest (enumerate_source s.chunks))
+
+-- the number of the last record that it yielded, 0 before the first
+abbrev pub last_number : LogReader → ℕ
+last_number s = enumerate_count s.chunks
 
 -- a call yields the next record with its number, until none is to come
-abbrev pub Yields : Reading → Option (ℕ × Bor (List ℕ)) → Reading → Type 0
-Yields s None t = (s.to_come ≡ []) × (t ≡ s)
-Yields s (Some p) t = (s.to_come ≡ p.1.now ∷ t.to_come) × (p.0 ≡ s.number + 1) × (t.number ≡ s.number + 1)
+abbrev pub Yields : LogReader → Option (ℕ × Bor (List ℕ)) → LogReader → Type 0
+Yields s None t = (yet_to_come s ≡ []) × (t ≡ s)
+Yields s (Some p) t = (yet_to_come s ≡ p.1.now ∷ yet_to_come t) × (p.0 ≡ last_number s + 1) × (last_number t ≡ last_number s + 1)
