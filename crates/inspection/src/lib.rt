@@ -85,7 +85,7 @@ impl Listing {
     fn add_log(&mut self, rows: usize, log: &[u8]) -> Result<(), AllocError>
         ensures { OnOk result (self.new ≡ self.old ++ log_text rows 0 (pieces log.now)) }
     {
-        // The last number is their count; kept by hand, since the loop may end early.
+        // The last number is their count: a second pass that counts, or a fold in which each line may fail, is no plainer.
         let mut records = 0;
         for (number, bytes) in LogReader::new(log) {
             match Record::read(bytes) {

@@ -65,6 +65,7 @@ impl Measure for IntervalLengths {
         IntervalLengths::opened_at(0)
     }
 
+    // By each measure itself, as the trait tells.
     fn further_codes() -> &'static [Event] {
         Self::FURTHER
     }

@@ -31,7 +31,7 @@ pub(crate) fn channels(some: &[u8]) -> ChannelSet {
         .fold(ChannelSet::empty(), |set, channel| set.with(*channel))
 }
 
-// The figures of one cycle, with these channels occupied at its opening.
+// The figures of one cycle, with these channels occupied at its opening; its parts are as figures_of_cycle takes them.
 pub(crate) fn cycle<M: Measure + Drop>(
     mut measure: M,
     opened: u32,

@@ -5,6 +5,7 @@ use measures::measure::{Measure, NoSettings};
 use measures::own::OwnRecord;
 use measures::split_failures::SplitFailures;
 
+// The parts of a cycle are as figures_of_cycle takes them.
 fn splits(opened: u32, occupied: &[u8], between: &[OwnRecord], closed: u32) -> [u64; 8] {
     cycle(
         SplitFailures::new(NoSettings),

@@ -68,6 +68,7 @@ impl Measure for Arrivals {
         Arrivals::opened_at(0)
     }
 
+    // By each measure itself, as the trait tells.
     fn further_codes() -> &'static [Event] {
         Self::FURTHER
     }

@@ -9,6 +9,7 @@ use crate::measure::Measure;
 use crate::own::OwnRecord;
 
 // The figures that a measure answers for a cycle: opened, stepped through the own records between, and closed.
+// What a cycle is made of stays four values: the measure's calls take them one by one, and a struct would be taken apart at once.
 pub fn figures_of_cycle<M: Measure>(
     measure: &mut M,
     opened: u32,

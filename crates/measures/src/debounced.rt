@@ -61,6 +61,7 @@ impl<M: Measure> Measure for Debounced<M> {
         Debounced::over(M::new(chosen))
     }
 
+    // Those of the measure below, asked of it: its constant has no value here.
     fn further_codes() -> &'static [Event] {
         M::further_codes()
     }

@@ -54,7 +54,7 @@ pub trait Measure: Sized {
         Self::OPENING
     }
 
-    // Each measure answers its constant itself: in a proof for any measure a constant that is a reference has no value.
+    // Each measure answers its own, and no body stands here: in a proof for any measure a constant that is a reference has no value.
     fn further_codes() -> &'static [Event]
         ensures { (s : Self.Settings) → map code_of result.now ≡ (meaning s).further };
 
@@ -70,6 +70,7 @@ pub trait Measure: Sized {
     fn shift(&self, row: &DetectorRow) -> i32
         ensures { result ≡ (meaning (settings self.now)).shift row.now };
 
+    // That the settings stay is told by each call that could change them: no invariant speaks of before and after.
     fn open(&mut self, moment: u32, occupied: ChannelSet)
         ensures same { settings self.new ≡ settings self.old }
         ensures after { tally self.new ≡ (meaning (settings self.old)).opened moment occupied.mask };

@@ -87,6 +87,7 @@ impl Measure for RedLight {
         RedLight::opened_at(chosen, 0)
     }
 
+    // By each measure itself, as the trait tells.
     fn further_codes() -> &'static [Event] {
         Self::FURTHER
     }

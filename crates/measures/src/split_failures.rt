@@ -123,6 +123,7 @@ impl Measure for SplitFailures {
         SplitFailures::opened_at(0, ChannelSet::empty())
     }
 
+    // By each measure itself, as the trait tells.
     fn further_codes() -> &'static [Event] {
         Self::FURTHER
     }
