@@ -1,4 +1,4 @@
-// A log read record by record. The struct stands alone here, since what its readings mean names it.
+// A log read record by record. The struct stands alone here, since its specs name it.
 ghost use Rattle.std.specs.Prelude.{◌≡◌, ◌+◌, ◌^◌, ◌<◌, length};
 ghost use Rattle.std.specs.Iterator.Adapters.{enumerate_source, enumerate_count};
 ghost use Rattle.std.specs.Slice.Iter.{chunks_rest, chunks_size};

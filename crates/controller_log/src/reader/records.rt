@@ -25,7 +25,7 @@ impl<'a> Iterator for LogReader<'a> {
 
     ghost next_gives = { Yields };
 
-    // The bound of the pieces' number is for the library's methods that count.
+    // That they are fewer than 2^64 lets the library's methods count them.
     ghost remaining = { λ s. at_most (min (length (yet_to_come s)) (2 ^ 64 - 1)) };
 
     fn next(&mut self) -> Option<(usize, &'a [u8])> {
