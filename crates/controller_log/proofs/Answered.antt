@@ -1,33 +1,10 @@
--- A closure that answers by a function, called along an array, and along an iterator until it answers a value.
-use Rattle.std.proofs.Common.{◌≡◌, ℕ, zero, suc, ◌+◌, ◌<◌, ◌≤◌, List, map, length, get_or, Some, None, Option, MatchOption, IfSome, sym, ap, ◌∙◌, subst, ⊎_elim, arith}
-use Rattle.std.specs.Array.{IsElementAt, IsMapOf, MapsFrom}
+-- A closure that answers by a function, called along an iterator until it answers a value.
+use Rattle.std.proofs.Common.{◌≡◌, ℕ, ◌+◌, ◌<◌, List, length, get_or, Some, None, Option, MatchOption, IfSome, sym, ap, ◌∙◌, arith}
 use Rattle.std.specs.Bool.{IsTrue}
 use Rattle.std.specs.Borrow.{Bor}
 use Rattle.std.specs.Iterator.Runs.{Run, ItemsMapTo, AllItemsGive, IsFirstToGive}
 use Rattle.std.specs.Option.{option_map, IsSomeAnd}
 use denote.Param.Members.{Mut, Called}
-use Rattle.std.proofs.lemmas.List.{same_lists, length-map, get_or-map}
-use Rattle.std.proofs.lemmas.Bool.{cases_lt}
-
-module _ {F A B : Type 0} (g : Mut F (A × Unit {0}) B) (f : F) (h : A → B) (answers : (x : A) (y : B) (q : F) → Called g f (x, tt) y q → (q ≡ f) × (y ≡ h x)) where
-  mapped_at : (xs : List A) (ys : List B) (n i : ℕ) → MapsFrom g f xs ys i n → (k : ℕ) → i ≤ k → k < i + n → (x : A) × IsElementAt xs k x × IsElementAt ys k (h x)
-  mapped_at xs ys zero i m k low high = absurd (omega arith)
-  mapped_at xs ys (suc n) i (q, x, y, at_x, at_y, called, rest) k low high =
-      let a = answers x y q called in
-      ⊎_elim
-      (λ (later : i < k). mapped_at xs ys n (i + 1) (subst (λ p. MapsFrom g p xs ys (i + 1) n) a.0 rest) k (omega arith) (omega arith))
-      (λ (here : k ≤ i).
-      let same : i ≡ k = omega arith in
-      (x, subst (λ j. IsElementAt xs j x) same at_x, subst (λ z. IsElementAt ys k z) a.1 (subst (λ j. IsElementAt ys j y) same at_y)))
-      (cases_lt i k)
-
-  -- an array mapped by the closure
-  pub array_mapped : (xs : List A) (ys : List B) (n : ℕ) → length xs ≡ n → IsMapOf g f xs ys n → ys ≡ map h xs
-  array_mapped xs ys n long m =
-      same_lists ys (map h xs) (m.long ∙ sym (length-map xs h ∙ long))
-      (λ k d l.
-      let at = mapped_at xs ys n 0 m.each k (omega arith) (let e = m.long in omega arith) in
-      at.2.1 d ∙ ap h (sym at.1.0) ∙ sym (get_or-map h xs k at.0 d (let e = m.long in omega arith)))
 
 -- a place of a run, by what is known of the item there
 item_given : {X : Type 0} (o : Option (Bor X)) (v : X) (P : Bor X → Type 0) → option_map (λ y. y.now) o ≡ Some v → IfSome o P → (x : Bor X) × (x.now ≡ v) × P x

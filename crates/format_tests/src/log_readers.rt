@@ -11,6 +11,27 @@ fn read_to_end(log: &[u8]) -> (usize, Option<(usize, usize)>) {
     )
 }
 
+// The number of the record after the next. With the function below: whoever is handed a reader has room to count on.
+fn after_the_next(reader: &mut LogReader<'_>) -> usize {
+    let Some((number, _)) = reader.next() else {
+        return 0;
+    };
+    number + 1
+}
+
+// A line for each record that is left, and one for their sum.
+fn lines_with_sum(reader: LogReader<'_>) -> usize {
+    reader.count() + 1
+}
+
+#[test]
+fn a_reader_leaves_room_to_count_on(rt: HostRuntime) {
+    let log = [0u8; 25];
+    let mut reader = LogReader::new(&log);
+    assert_eq!(rt; after_the_next(&mut reader), 2);
+    assert_eq!(rt; lines_with_sum(reader), 4);
+}
+
 #[test]
 fn a_short_last_piece_is_yielded_too(rt: HostRuntime) {
     let log = [0u8; 25];

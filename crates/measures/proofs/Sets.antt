@@ -106,11 +106,11 @@ all_none p zero h = refl
 all_none p (suc n) h = or_from (p (suc n)) (one_upto p n) (h (suc n)) (all_none p n h)
 
 -- the empty set, and no other, holds no channel
-some_of_none : some_channel (holds 0) ≡ false
+pub some_of_none : some_channel (holds 0) ≡ false
 unfolding some_channel
 some_of_none = all_none (holds 0) channels holds_none
 
-none_of_some : (q : ℕ) → q < 2 ^ 64 → some_channel (holds q) ≡ false → q ≡ 0
+pub none_of_some : (q : ℕ) → q < 2 ^ 64 → some_channel (holds q) ≡ false → q ≡ 0
 unfolding some_channel holds
 none_of_some q l e =
     same_from_bits_below 64 q 0 l (omega arith) (λ i k.

@@ -1,6 +1,8 @@
 // What a log reader yields: the bytes of each record with its number from 1, a short last piece too.
-ghost use Rattle.std.specs.Prelude.{◌≡◌, ◌-◌, ◌^◌, length, min};
+ghost use Rattle.std.specs.Prelude.{◌≡◌, length, min};
 ghost use Rattle.std.specs.Iterator.{at_most};
+ghost use Rattle.std.specs.Iterator.Adapters.{enumerate_source};
+ghost use Rattle.std.specs.Slice.Iter.{chunks_rest};
 ghost use Rattle.controller_log.specs.Pieces.{pieces, Cuts};
 ghost use Rattle.controller_log.specs.Readers.{yet_to_come, last_number, Yields};
 
@@ -25,8 +27,8 @@ impl<'a> Iterator for LogReader<'a> {
 
     ghost next_gives = { Yields };
 
-    // That they are fewer than 2^64 lets the library's methods count them.
-    ghost remaining = { λ s. at_most (min (length (yet_to_come s)) (2 ^ 64 - 1)) };
+    // No more than the pieces that are left, nor than their bytes: a slice has fewer than 2^63, so the library's methods can count them.
+    ghost remaining = { λ s. at_most (min (length (yet_to_come s)) (length (chunks_rest (enumerate_source s.chunks)))) };
 
     fn next(&mut self) -> Option<(usize, &'a [u8])> {
         let (before, piece) = self.chunks.next()?;

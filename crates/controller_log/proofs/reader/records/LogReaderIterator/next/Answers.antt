@@ -18,7 +18,7 @@ abbrev Eights : Enumerate (Chunks ℕ) → Type 0
 Eights k = chunks_size (enumerate_source k) ≡ record_size
 
 abbrev Countable : Enumerate (Chunks ℕ) → Type 0
-Countable k = enumerate_count k + length (chunks_rest (enumerate_source k)) < 2 ^ 64
+Countable k = enumerate_count k + length (chunks_rest (enumerate_source k)) < 2 ^ 63
 
 -- two readers with one iterator are the same: of each fact beside it there is one proof
 same_reader : (s : LogReader) (k : Enumerate (Chunks ℕ)) → s.chunks ≡ k → (e : Eights k) (n : Countable k) → ◌≡◌ {A = LogReader} record { chunks = k; eights = e; countable = n } s
