@@ -11,7 +11,7 @@ use std::slice::Chunks;
 
 // A cursor over a log's pieces, which counts them.
 // Ghost fields and no model: a model would hide from whoever is handed a reader how its pieces lie and that they can be counted.
-// The records that came and the bytes that are left are no more than the log's bytes, so whoever counts on has room.
+// The records that came and the bytes that are left are together no more than the log's bytes, so whoever counts on has room.
 #[derive(Drop)]
 pub struct LogReader<'a> {
     chunks: Enumerate<Chunks<'a, u8>>,

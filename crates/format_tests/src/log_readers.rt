@@ -11,7 +11,7 @@ fn read_to_end(log: &[u8]) -> (usize, Option<(usize, usize)>) {
     )
 }
 
-// The number of the record after the next. With the function below: whoever is handed a reader has room to count on.
+// The number of the record after the next. This and the function below are proved for any reader: it leaves room to count on.
 fn after_the_next(reader: &mut LogReader<'_>) -> usize {
     let Some((number, _)) = reader.next() else {
         return 0;

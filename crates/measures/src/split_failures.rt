@@ -86,13 +86,15 @@ impl SplitFailures {
     }
 
     // The cause with one more record: the first one counts.
+    // Only a green without one asks which event came: asked of every record, it made a step take twice as long.
     fn cause_after(&self, own: OwnRecord) -> Option<Event>
         ensures { cause_number result ≡ cause_after (kept self.now) own.code }
     {
-        match (self.shows, own.event()) {
-            (Interval::Green, cause @ Some(Event::GapOut | Event::MaxOut | Event::ForceOff)) => {
-                self.cause.or(cause)
-            }
+        match (self.shows, self.cause) {
+            (Interval::Green, None) => match own.event() {
+                cause @ Some(Event::GapOut | Event::MaxOut | Event::ForceOff) => cause,
+                _ => self.cause,
+            },
             _ => self.cause,
         }
     }
@@ -144,19 +146,14 @@ impl Measure for SplitFailures {
         *self = SplitFailures::opened_at(moment, occupied);
     }
 
-    // One match on the event: asked for it three times, a step took twice as long.
     #[tactic(auto, using(crate::proofs::SplitKeep::room_to_step))]
     fn step(&mut self, own: OwnRecord) {
         self.green_occupied = self.green_until(own.adjusted);
         self.red_occupied = self.red_until(own.adjusted);
+        self.cause = self.cause_after(own);
+        self.occupied = self.occupied.after(own);
         self.last = own.adjusted;
         match own.event() {
-            Some(Event::DetectorOn | Event::DetectorOff) => {
-                self.occupied = self.occupied.after(own);
-            }
-            Some(Event::GapOut | Event::MaxOut | Event::ForceOff) => {
-                self.cause = self.cause_after(own);
-            }
             Some(Event::YellowBegins) => {
                 self.shows = Interval::Yellow;
                 self.yellow = own.adjusted;
@@ -165,9 +162,7 @@ impl Measure for SplitFailures {
                 self.shows = Interval::Red;
                 self.red = own.adjusted;
             }
-            // Two arms, so that a proof knows in each which event came.
-            Some(Event::GreenBegins | Event::RedClearanceEnds) => {}
-            None => {}
+            _ => {}
         }
     }
 
